@@ -1,0 +1,4 @@
+pub mod Laws
+pub mod Once
+pub mod Pinned
+pub mod Refusals

@@ -1,0 +1,27 @@
+-- Each public function's promise settles its outcome. Assumes nothing.
+use denote.Ref.{now}
+use Rattle.common.proofs.Once.{Once, equal}
+use Rattle.common.proofs.Refusal.number.Reads as number
+use Rattle.common.proofs.low.Reads as low
+use Rattle.common.proofs.high.Reads as high
+use Rattle.common.proofs.word.Reads as word
+use Rattle.common.proofs.within.Reads as within
+use Rattle.common.proofs.put.Reads as put
+
+pub number-once : Once number.Post (λ κs x s. x)
+number-once κs a x y s t = equal
+
+pub low-once : Once low.Post (λ κs x s. x)
+low-once κs a x y s t = equal
+
+pub high-once : Once high.Post (λ κs x s. x)
+high-once κs a x y s t = equal
+
+pub word-once : Once word.Post (λ κs x s. x)
+word-once κs a x y s t = equal
+
+pub within-once : Once within.Post (λ κs x s. x)
+within-once κs a x y s t = equal
+
+pub put-once : Once put.Post (λ κs x s. now (s .1 .1 .1 .0))
+put-once κs a x y s t = equal
