@@ -43,7 +43,7 @@ module _ {A : Type 0} where
       (rw (length-take-le n (drop f s) l)
       (rw (take-take n n (drop f s) (le-refl n))
       (rw (take-all (length d - at) (drop at d) k)
-      (rw (drop-of-length-le (drop at d) k) (simp (drop-drop, append-nil, append-assoc))))))
+      (rw (drop-of-length-le (drop at d) k) (simp (drop-drop, append-nil))))))
 
   -- what `stored` says: of a part that runs past its end, nothing; else the part at its place
   pub stored-short : (d s : List A) (at f n : ℕ) → inside s f n ≡ false → d ≡ stored d at s f n

@@ -46,18 +46,19 @@ impl Refusal {
     }
 }
 
-// The low byte of a word.
-pub fn low(x: u16) -> u8
-    ensures { λ r. ⌜ r ≡ x % 256 ⌝ }
-{
-    (x % 256) as u8
+// The two bytes of a word.
+pub struct Halves {
+    pub low: u8,
+    pub high: u8,
 }
 
-// The high byte of a word.
-pub fn high(x: u16) -> u8
-    ensures { λ r. ⌜ r ≡ x / 256 ⌝ }
+pub fn split(x: u16) -> Halves
+    ensures { λ r. ⌜ r ≡ record { low = x % 256; high = x / 256 } ⌝ }
 {
-    (x / 256) as u8
+    Halves {
+        low: (x % 256) as u8,
+        high: (x / 256) as u8,
+    }
 }
 
 // The word of two bytes, the low one first.
