@@ -1,14 +1,15 @@
 -- Laws of tests and of lists that the proofs of every crate cite. Assumes nothing.
 use borrow.Author.Tests.{eq-eqb, ne-eqb, lt-ltb, le-ltb, le-leb, lt-leb, leb-true, leb-false}
 use lib.Dec.{leb}
-use Prim.Native.Nat.{ℕ, _+_, _-_, _≤_}
+use Prim.Native.Nat.{ℕ, _+_, _-_, _≤_, _<_}
 use mathlib.Core.Bool.{Bool, true, false, cond, _&&_}
-use mathlib.Core.Path.{_≡_, refl, sym, _∙_}
-use mathlib.Core.List.{List, [], _++_, append-assoc, append-nil}
+use mathlib.Core.Path.{_≡_, refl, sym, ap, _∙_}
+use mathlib.Core.List.{List, [], _∷_, _++_, append-assoc, append-nil}
 use native.Mathlib.Omega.{arith}
-use native.Mathlib.Nat.{le-refl}
-use lib.ListN.{length, take, drop, length-append, length-drop, drop-of-length-le, take-append-drop}
-use lib.Seq.{length-take-le, take-all, take-take, drop-drop, take-append-le, drop-append-le, drop-at, take-at}
+use native.Mathlib.Nat.{le-refl, add-zero, add-assoc}
+use native.Mathlib.Numerals.{add-one}
+use lib.ListN.{length, getD, take, drop, length-take, length-append, length-drop, drop-of-length-le, take-append-drop}
+use lib.Seq.{slice-cons, paste, take-length, length-take-le, take-all, take-take, drop-drop, drop-append-add, take-at}
 use Rattle.common.specs.Bytes.{inside, part, placed, stored}
 
 -- a test of numbers from its fact
@@ -29,7 +30,18 @@ leb-iff a b c d f g = at (leb a b) refl (leb c d) refl
     at true e false k = absurd (let l : c ≤ d = f (leb-true a b e) in omega (arith, leb-false c d k))
     at false e true k = absurd (let l : a ≤ b = g (leb-true c d k) in omega (arith, leb-false a b e))
 
+pub and-false : (b : Bool) → b && false ≡ false
+and-false true = refl
+and-false false = refl
+
 module _ {A : Type 0} where
+  -- of the first n elements, what is left at i: the element at i, and what is left after it
+  pub rest-cons : (l : List A) (n i : ℕ) (d : A) → n ≤ length l → i < n → drop i (take n l) ≡ getD l i d ∷ drop (i + 1) (take n l)
+  rest-cons l n i d h k = rw add-one (slice-cons i n l d k h)
+
+  pub rest-nil : (l : List A) (n i : ℕ) → n ≤ i → drop i (take n l) ≡ []
+  rest-nil l n i h = let k : length (take n l) ≤ i = rw (length-take n l) (omega arith) in drop-of-length-le (take n l) k
+
   -- a copy of `&s[f..f + n]` into `&mut d[at..]`, as the two parts come back
   pub copied-part : (s d : List A) (f n at : ℕ) → f + n ≤ length s → at + n ≤ length d
       → take at d ++ ((take (length (take (f + n - f) (drop f s))) (take (f + n - f) (drop f s)) ++ drop (length (take (f + n - f) (drop f s))) (take (length d - at) (drop at d))) ++ drop (length d - at) (drop at d))
@@ -57,3 +69,42 @@ module _ {A : Type 0} where
   pub stored-part : (d s : List A) (at f n : ℕ) → inside s f n ≡ true → inside d at n ≡ true → stored d at s f n ≡ placed d at (part f n s)
   unfolding stored
   stored-part d s at f n e k = rw (e, k)
+
+  -- all of s where d has the room
+  pub stored-whole : (d s : List A) (at n : ℕ) → n ≡ length s → at + n ≤ length d → stored d at s 0 n ≡ placed d at s
+  stored-whole d s at n e l =
+      let h : 0 + n ≤ length s = omega arith in
+      stored-part d s at 0 n (le-leb _ _ h) (le-leb _ _ l) ∙ ap (λ (t : List A). placed d at t) (take-all n s (omega arith))
+
+  -- what is placed leaves the length
+  pub length-placed : (d s : List A) (at : ℕ) → at + length s ≤ length d → length (placed d at s) ≡ length d
+  unfolding placed
+  length-placed d s at l =
+      let h : at ≤ length d = omega arith in
+      simp (length-append, length-take-le at d h, length-drop) (omega arith)
+
+  -- nothing placed changes nothing
+  pub placed-nil : (d : List A) (at : ℕ) → placed d at [] ≡ d
+  unfolding placed
+  placed-nil d at = rw (add-zero at) (take-append-drop at d)
+
+  drop-past : (xs ys : List A) (k n : ℕ) → length xs ≡ k → drop (k + n) (xs ++ ys) ≡ drop n ys
+  drop-past xs ys k n e = rw (← e) (drop-append-add xs ys n)
+
+  -- one part placed behind another is both placed
+  pub placed-more : (d s t : List A) (at : ℕ) → at + length s + length t ≤ length d → placed (placed d at s) (at + length s) t ≡ placed d at (s ++ t)
+  unfolding placed
+  placed-more d s t at l =
+      let k = at + length s in
+      let h : at ≤ length d = omega arith in
+      let e : length (take at d ++ s) ≡ at + length s = simp (length-append, length-take-le at d h) in
+      let q : take at d ++ (s ++ drop k d) ≡ take at d ++ s ++ drop k d = sym (append-assoc (take at d) s (drop k d)) in
+      rw q
+      (rw (take-at (take at d ++ s) (drop k d) k e)
+      (rw (drop-past (take at d ++ s) (drop k d) k (length t) e)
+      (simp (drop-drop, length-append, append-assoc, add-assoc))))
+
+  -- a whole copy, as the library has it
+  pub paste-all : (d s : List A) (at : ℕ) → paste d at s (length s) ≡ placed d at s
+  unfolding placed
+  paste-all d s at = rw (take-length s) (append-assoc (take at d) s (drop (at + length s) d))
