@@ -1,4 +1,5 @@
 pub mod Laws
+pub mod Lists
 pub mod Once
 pub mod Pinned
 pub mod Refusals

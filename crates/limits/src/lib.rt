@@ -1,7 +1,13 @@
 // Which of refusals 1, 2 and 3 a device record gets. Any record gets an answer, whatever its counts say.
 use common::Refusal;
-use record::{ENDPOINTS, Endpoint, INTERFACES, LANGUAGES, NAMES, Plan, STRINGS, UNITS};
-
+use record::ENDPOINTS;
+use record::Endpoint;
+use record::INTERFACES;
+use record::LANGUAGES;
+use record::NAMES;
+use record::Plan;
+use record::STRINGS;
+use record::UNITS;
 ghost use mathlib.Core.Path.{_≡_};
 ghost use mathlib.Core.List.{map};
 ghost use Prim.Native.Nat.{_*_, _≤_};

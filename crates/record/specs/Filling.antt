@@ -29,12 +29,12 @@ abbrev pub bare : Basics → Record
 bare b =
     record {
       plan =
-        record {
-          basics = b;
-          interfaces = record { count = 0; list = replicate interfaceRoom (record { class = 0; subclass = 0; protocol = 0 }) };
-          endpoints = record { count = 0; list = replicate endpointRoom (record { address = record { 0 = 0 }; kind = Bulk; size = 0; interval = 0; interface = 0 }) };
-          languages = 0;
-        };
+          record {
+            basics = b;
+            interfaces = record { count = 0; list = replicate interfaceRoom (record { class = 0; subclass = 0; protocol = 0 }) };
+            endpoints = record { count = 0; list = replicate endpointRoom (record { address = record { 0 = 0 }; kind = Bulk; size = 0; interval = 0; interface = 0 }) };
+            languages = 0;
+          };
       ids = replicate languageRoom 0;
       lens = replicate stringRoom 0;
       units = replicate textRoom 0;

@@ -2,7 +2,6 @@
 // A person fills it with the methods of Record; nobody computes a place in its flat arrays. What has no place spoils the
 // record, so that refusal 2 or 3 tells of it: nothing is dropped in silence. What lies beyond a count is not looked at.
 use control::EndpointAddress;
-
 ghost use mathlib.Core.Path.{_≡_};
 ghost use Prim.Native.Nat.{_+_, _≤_, _<_};
 ghost use lib.ListN.{length, replicate};
@@ -12,11 +11,17 @@ ghost use Rattle.common.specs.Bytes.{placed};
 
 // The sizes, each named once.
 pub const INTERFACES: usize = 4;
+
 pub const ENDPOINTS: usize = 8;
+
 pub const LANGUAGES: usize = 4;
+
 pub const NAMES: usize = 3;
+
 pub const UNITS: usize = 31;
+
 pub const STRINGS: usize = LANGUAGES * NAMES;
+
 pub const TEXT: usize = STRINGS * UNITS;
 
 // A count or a length that no good record has.

@@ -1,45 +1,46 @@
+use Prim.Native.Nat.{_+_, _-_, _*_, _≤_}
+use mathlib.Core.Path.{_≡_, refl, sym, _∙_}
+use native.Mathlib.Omega.{arith}
+use borrow.Author.Needs.{needs}
+use lib.ListN.{length, getD, take, drop}
+use mathlib.Core.List.{List, map}
+use mathlib.Core.Bool.{Bool}
+use Rattle.common.specs.Lists.{member}
+use Rattle.common.proofs.Lists.{turn, ended, member-here, member-next, member-nil}
+use Rattle.record.specs.declared.Endpoint.{Endpoint}
+use Rattle.limits.specs.Limits.{addressOf}
+use Rattle.limits.proofs.Laws.{blank}
 use Rattle.limits.proofs.again.Statement.{statement}
 use Rattle.limits.proofs.again.Tie as tie
-use Rattle.limits.proofs.again.Reads as reads
-use Rattle.limits.proofs.again.Lts as lts
 
 abbrev Inv-loop : tie.InvT-loop
-Inv-loop address from n list j₀ j = ?
+Inv-loop address from n list j₀ j = member address (map addressOf (drop from (take n list))) ≡ member address (map addressOf (drop j (take n list)))
 
 abbrev μ-loop : tie.MeasureT-loop
-μ-loop address from n list j₀ j = ?
+μ-loop address from n list j₀ j = n - j
 
--- src/lib.rt:116:5
 loop-holds : tie.Need-loop-holds Inv-loop μ-loop
-loop-holds c = ?
+loop-holds c = refl
 
--- src/lib.rt:117:17
-mul-e : tie.Need-mul-e Inv-loop μ-loop
-mul-e c = ?
-
--- src/lib.rt:117:17
-array-copy-out-e : tie.Need-array-copy-out-e Inv-loop μ-loop
-array-copy-out-e c = ?
-
--- src/lib.rt:119:13
 returns : tie.Need-returns Inv-loop μ-loop
-returns c = ?
+returns c =
+    let a = c .before .before .before .before .before .args in
+    let w = c .before .before .before .before .loop in
+    let l : length (a .t1) ≡ 8 = search needs in
+    sym (turn (λ (es : List Endpoint). member (a .address) (map addressOf es)) (a .t1) (a .n) (w .j) blank _ (omega arith) (c .before .before .before .loop-test .taken) (w .inv) ∙ member-here _ _ _ (c .if1 .taken))
 
--- src/lib.rt:121:9
-add-j : tie.Need-add-j Inv-loop μ-loop
-add-j c = ?
-
--- src/lib.rt:116:5
-loop-less : tie.Need-loop-less Inv-loop μ-loop
-loop-less c = ?
-
--- src/lib.rt:116:5
 loop-again : tie.Need-loop-again Inv-loop μ-loop
-loop-again c = ?
+loop-again c =
+    let a = c .before .before .before .before .before .args in
+    let w = c .before .before .before .before .loop in
+    let l : length (a .t1) ≡ 8 = search needs in
+    turn (λ (es : List Endpoint). member (a .address) (map addressOf es)) (a .t1) (a .n) (w .j) blank _ (omega arith) (c .before .before .before .loop-test .taken) (w .inv) ∙ member-next _ _ _ (c .if1 .left)
 
--- src/lib.rt:111:1
 returns-2 : tie.Need-returns-2 Inv-loop μ-loop
-returns-2 c = ?
+returns-2 c =
+    let a = c .before .before .args in
+    let w = c .before .loop in
+    sym (ended (λ (es : List Endpoint). member (a .address) (map addressOf es)) (a .t1) (a .n) (w .j) _ (c .loop-test .left) (w .inv) ∙ member-nil _)
 
 pub again-spec : {M : Type 1} → statement M
 again-spec =
@@ -48,10 +49,10 @@ again-spec =
     Inv-loop
     μ-loop
     loop-holds
-    mul-e
-    array-copy-out-e
+    (λ c. search needs)
+    (λ c. search needs)
     returns
-    add-j
-    loop-less
+    (λ c. search needs)
+    (λ c. search needs)
     loop-again
     returns-2)

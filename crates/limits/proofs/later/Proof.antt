@@ -1,45 +1,42 @@
+use Prim.Native.Nat.{_+_, _-_, _*_, _≤_}
+use mathlib.Core.Path.{_≡_, refl, sym, _∙_}
+use native.Mathlib.Omega.{arith}
+use borrow.Author.Needs.{needs}
+use lib.ListN.{length, getD, take, drop}
+use denote.Ref.{now}
+use Rattle.common.specs.Lists.{member}
+use Rattle.common.proofs.Lists.{turn, ended, member-here, member-next, member-nil}
 use Rattle.limits.proofs.later.Statement.{statement}
 use Rattle.limits.proofs.later.Tie as tie
-use Rattle.limits.proofs.later.Reads as reads
-use Rattle.limits.proofs.later.Lts as lts
 
 abbrev Inv-loop : tie.InvT-loop
-Inv-loop ids id from n j₀ j = ?
+Inv-loop ids id from n j₀ j = member id (drop from (take n ids)) ≡ member id (drop j (take n ids))
 
 abbrev μ-loop : tie.MeasureT-loop
-μ-loop ids id from n j₀ j = ?
+μ-loop ids id from n j₀ j = n - j
 
--- src/lib.rt:160:5
 loop-holds : tie.Need-loop-holds Inv-loop μ-loop
-loop-holds c = ?
+loop-holds c = refl
 
--- src/lib.rt:161:18
-mul-if1 : tie.Need-mul-if1 Inv-loop μ-loop
-mul-if1 c = ?
-
--- src/lib.rt:161:18
-shared-slice-read-if1 : tie.Need-shared-slice-read-if1 Inv-loop μ-loop
-shared-slice-read-if1 c = ?
-
--- src/lib.rt:162:13
 returns : tie.Need-returns Inv-loop μ-loop
-returns c = ?
+returns c =
+    let s = c .before .before .before .before in
+    let a = s .args in
+    let w = c .before .before .before .loop in
+    sym (turn (member (a .id)) (now (a .ids)) (a .n) (w .j) 0 _ (s .pre) (c .before .before .loop-test .taken) (w .inv) ∙ member-here _ _ _ (c .if1 .taken))
 
--- src/lib.rt:164:9
-add-j : tie.Need-add-j Inv-loop μ-loop
-add-j c = ?
-
--- src/lib.rt:160:5
-loop-less : tie.Need-loop-less Inv-loop μ-loop
-loop-less c = ?
-
--- src/lib.rt:160:5
 loop-again : tie.Need-loop-again Inv-loop μ-loop
-loop-again c = ?
+loop-again c =
+    let s = c .before .before .before .before in
+    let a = s .args in
+    let w = c .before .before .before .loop in
+    turn (member (a .id)) (now (a .ids)) (a .n) (w .j) 0 _ (s .pre) (c .before .before .loop-test .taken) (w .inv) ∙ member-next _ _ _ (c .if1 .left)
 
--- src/lib.rt:155:1
 returns-2 : tie.Need-returns-2 Inv-loop μ-loop
-returns-2 c = ?
+returns-2 c =
+    let a = c .before .before .args in
+    let w = c .before .loop in
+    sym (ended (member (a .id)) (now (a .ids)) (a .n) (w .j) _ (c .loop-test .left) (w .inv) ∙ member-nil _)
 
 pub later-spec : {M : Type 1} → statement M
 later-spec =
@@ -48,10 +45,10 @@ later-spec =
     Inv-loop
     μ-loop
     loop-holds
-    mul-if1
-    shared-slice-read-if1
+    (λ c. search needs)
+    (λ c. search needs)
     returns
-    add-j
-    loop-less
+    (λ c. search needs)
+    (λ c. search needs)
     loop-again
     returns-2)

@@ -1,0 +1,54 @@
+-- Laws of the tests of lists, and of a loop that walks a list. Assumes nothing.
+use borrow.Author.Tests.{eq-eqb, ne-eqb}
+use Prim.Native.Nat.{ℕ, _+_, _≤_, _<_}
+use mathlib.Core.Bool.{Bool, true, false, cond, _&&_}
+use mathlib.Core.Path.{_≡_, refl, sym, ap, _∙_}
+use mathlib.Core.List.{List, [], _∷_}
+use lib.ListN.{length, getD, take, drop}
+use Rattle.common.specs.Lists.{every, member, noneTwice}
+use Rattle.common.proofs.Laws.{rest-cons, rest-nil}
+
+-- a loop over the first n elements keeps that the whole answer is the answer of what is left: a turn, and the end
+module _ {A : Type 0} {B : Type 0} (F : List A → B) (l : List A) (n : ℕ) where
+  pub turn : (i : ℕ) (d : A) (whole : B) → n ≤ length l → i < n → whole ≡ F (drop i (take n l)) → whole ≡ F (getD l i d ∷ drop (i + 1) (take n l))
+  turn i d whole h k e = e ∙ ap F (rest-cons l n i d h k)
+
+  pub ended : (i : ℕ) (whole : B) → n ≤ i → whole ≡ F (drop i (take n l)) → whole ≡ F []
+  ended i whole h e = e ∙ ap F (rest-nil l n i h)
+
+module _ {A : Type 0} (f : A → Bool) (x : A) (xs : List A) where
+  pub every-bad : f x ≡ false → every f (x ∷ xs) ≡ false
+  unfolding every
+  every-bad e = rw e
+
+  pub every-next : f x ≡ true → every f (x ∷ xs) ≡ every f xs
+  unfolding every
+  every-next e = rw e
+
+pub every-nil : {A : Type 0} (f : A → Bool) → every f [] ≡ true
+unfolding every
+every-nil f = refl
+
+pub member-here : (x y : ℕ) (ys : List ℕ) → x ≡ y → member x (y ∷ ys) ≡ true
+unfolding member
+member-here x y ys e = rw (eq-eqb x y e)
+
+pub member-next : (x y : ℕ) (ys : List ℕ) → (x ≡ y → ⊥) → member x (y ∷ ys) ≡ member x ys
+unfolding member
+member-next x y ys e = rw (ne-eqb x y e)
+
+pub member-nil : (x : ℕ) → member x [] ≡ false
+unfolding member
+member-nil x = refl
+
+pub twice-bad : (x : ℕ) (xs : List ℕ) → member x xs ≡ true → noneTwice (x ∷ xs) ≡ false
+unfolding noneTwice
+twice-bad x xs e = rw e
+
+pub twice-next : (x : ℕ) (xs : List ℕ) → member x xs ≡ false → noneTwice (x ∷ xs) ≡ noneTwice xs
+unfolding noneTwice
+twice-next x xs e = rw e
+
+pub twice-nil : noneTwice [] ≡ true
+unfolding noneTwice
+twice-nil = refl

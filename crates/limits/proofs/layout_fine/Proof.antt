@@ -1,0 +1,49 @@
+use mathlib.Core.Path.{_≡_, refl, sym, _∙_}
+use mathlib.Core.Bool.{true, false}
+use lib.Dec.{leb}
+use borrow.Author.Tests.{le-leb, lt-leb}
+use Rattle.record.specs.Sizes.{interfaceRoom, endpointRoom}
+use Rattle.common.proofs.Laws.{tests}
+use Rattle.limits.specs.Limits.{layoutFine}
+use borrow.Author.Needs.{needs}
+use Rattle.limits.proofs.layout_fine.Statement.{statement}
+use Rattle.limits.proofs.layout_fine.Tie as tie
+
+returns : tie.Need-returns
+unfolding layoutFine
+returns c = search (needs, tests)
+
+returns-2 : tie.Need-returns-2
+unfolding layoutFine
+returns-2 c = search (needs, tests)
+
+returns-3 : tie.Need-returns-3
+unfolding layoutFine
+returns-3 c = search (needs, tests)
+
+returns-4 : tie.Need-returns-4
+unfolding layoutFine
+returns-4 c = search (needs, tests)
+
+returns-5 : tie.Need-returns-5
+unfolding layoutFine
+returns-5 c =
+    let p = c .before .before .before .before .before .before .before .before .before .before .args .plan in
+    let w : leb (p .basics .power) 250 ≡ true = le-leb _ _ (c .before .before .before .before .before .if1 .left) in
+    let l : leb 1 (p .interfaces .count) ≡ true = le-leb _ _ (c .before .before .before .before .if2 .left) in
+    let h : leb (p .interfaces .count) interfaceRoom ≡ true = le-leb _ _ (c .before .before .before .if3 .left) in
+    let e : leb (p .endpoints .count) endpointRoom ≡ true = le-leb _ _ (c .before .before .if4 .left) in
+    rw (w, l, h, e) (c .endpoints-fine .ensures)
+
+pub layout-fine-spec : {M : Type 1} → statement M
+layout-fine-spec =
+    tie.close
+    (tie.spec
+    (λ c. search needs)
+    returns
+    returns-2
+    (λ c. search needs)
+    returns-3
+    returns-4
+    (λ c κs. search needs)
+    returns-5)
