@@ -2,7 +2,7 @@
 use borrow.Author.Tests.{eq-eqb, ne-eqb, lt-ltb, le-ltb, le-leb, lt-leb, leb-true, leb-false}
 use lib.Dec.{leb}
 use Prim.Native.Nat.{ℕ, _+_, _-_, _≤_, _<_}
-use mathlib.Core.Bool.{Bool, true, false, cond, _&&_}
+use mathlib.Core.Bool.{Bool, true, false, cond, _&&_, false≢true}
 use mathlib.Core.Path.{_≡_, refl, sym, ap, _∙_}
 use mathlib.Core.List.{List, [], _∷_, _++_, append-assoc, append-nil}
 use native.Mathlib.Omega.{arith}
@@ -29,6 +29,15 @@ leb-iff a b c d f g = at (leb a b) refl (leb c d) refl
     at false e false k = e ∙ sym k
     at true e false k = absurd (let l : c ≤ d = f (leb-true a b e) in omega (arith, leb-false c d k))
     at false e true k = absurd (let l : a ≤ b = g (leb-true c d k) in omega (arith, leb-false a b e))
+
+-- both parts of a test that holds
+pub and-left : (a b : Bool) → a && b ≡ true → a ≡ true
+and-left true b e = refl
+and-left false b e = e
+
+pub and-right : (a b : Bool) → a && b ≡ true → b ≡ true
+and-right true b e = e
+and-right false b e = absurd (false≢true e)
 
 pub and-false : (b : Bool) → b && false ≡ false
 and-false true = refl

@@ -1,12 +1,13 @@
 -- Laws of the tests of lists, and of a loop that walks a list. Assumes nothing.
 use borrow.Author.Tests.{eq-eqb, ne-eqb}
-use Prim.Native.Nat.{ℕ, _+_, _≤_, _<_}
+use Prim.Native.Nat.{ℕ, zero, suc, _+_, _≤_, _<_}
+use native.Mathlib.Omega.{arith}
 use mathlib.Core.Bool.{Bool, true, false, cond, _&&_}
 use mathlib.Core.Path.{_≡_, refl, sym, ap, _∙_}
 use mathlib.Core.List.{List, [], _∷_}
 use lib.ListN.{length, getD, take, drop}
 use Rattle.common.specs.Lists.{every, member, noneTwice}
-use Rattle.common.proofs.Laws.{rest-cons, rest-nil}
+use Rattle.common.proofs.Laws.{rest-cons, rest-nil, and-left, and-right}
 
 -- a loop over the first n elements keeps that the whole answer is the answer of what is left: a turn, and the end
 module _ {A : Type 0} {B : Type 0} (F : List A → B) (l : List A) (n : ℕ) where
@@ -52,3 +53,11 @@ twice-next x xs e = rw e
 pub twice-nil : noneTwice [] ≡ true
 unfolding noneTwice
 twice-nil = refl
+
+-- what holds of each of the first k elements, and of the default, holds at every place below k
+pub every-at : {A : Type 0} (f : A → Bool) (l : List A) (k i : ℕ) (d : A) → i < k → f d ≡ true → every f (take k l) ≡ true → f (getD l i d) ≡ true
+unfolding every
+every-at f [] k i d h t e = t
+every-at f (x ∷ xs) zero i d h t e = absurd (omega arith)
+every-at f (x ∷ xs) (suc k) zero d h t e = and-left (f x) (every f (take k xs)) e
+every-at f (x ∷ xs) (suc k) (suc i) d h t e = every-at f xs k i d (omega arith) t (and-right (f x) (every f (take k xs)) e)
