@@ -1,11 +1,11 @@
 -- How long a configuration is. Assumes nothing.
-use Prim.Native.Nat.{ℕ, suc, _+_, _*_, _%_, _≤_, _<_}
+use Prim.Native.Nat.{ℕ, _+_, _*_, _%_, _≤_, _<_}
 use mathlib.Core.Bool.{Bool, true, false, _&&_}
-use mathlib.Core.Path.{_≡_, refl, sym, ap, _∙_}
-use mathlib.Core.List.{List, [], _∷_, _++_, map}
+use mathlib.Core.Path.{_≡_, refl, ap, _∙_}
+use mathlib.Core.List.{List, [], _∷_, map}
 use native.Mathlib.Omega.{arith}
-use borrow.Author.Tests.{eqb-true, eqb-false, ltb-true, leb-true}
-use lib.Dec.{eqb, ltb, leb}
+use borrow.Author.Tests.{eqb-true, eqb-false, ltb-true}
+use lib.Dec.{eqb, ltb}
 use lib.ListN.{length, take, length-append}
 use lib.Seq.{length-take-le}
 use Rattle.common.specs.Lists.{between, every, noneTwice}
@@ -15,7 +15,7 @@ use Rattle.record.specs.declared.Endpoint.{Endpoint}
 use Rattle.record.specs.declared.Interface.{Interface}
 use Rattle.record.specs.declared.Plan.{Plan}
 use Rattle.limits.specs.Limits.{addressOf, endpointFine, listFine, layoutFine}
-use Rattle.limits.proofs.Good.{Layout, layout-facts}
+use Rattle.limits.proofs.Good.{layout-facts}
 use Rattle.descriptor.specs.Descriptor.{endpointBytes, owned, joined, interfaceSet, interfaceSets, headBytes, bodyBytes, configurationBytes}
 use Rattle.descriptor.proofs.Laws.{owned-here, owned-other, owned-nil, owned-count, length-set}
 

@@ -1,6 +1,6 @@
 -- USB 2.0 section 9.6: each descriptor as the list of its bytes, in the order of its table. Document 01, module 2.
 use Prim.Native.Nat.{ℕ, zero, suc, _+_, _-_, _*_, _/_, _%_}
-use mathlib.Core.Bool.{Bool, true, false, cond, not, _||_}
+use mathlib.Core.Bool.{Bool, false, cond, not, _||_}
 use mathlib.Core.List.{List, [], _∷_, _++_}
 use mathlib.Core.Option.{Option, some, none, Option·map}
 use lib.Dec.{eqb}

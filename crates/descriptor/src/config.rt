@@ -2,8 +2,14 @@
 use super::Written;
 use super::write;
 use common::Refusal;
-use record::{ENDPOINTS, Endpoint, INTERFACES, Interface, Kind, NAMES, Plan, STRINGS};
-
+use record::ENDPOINTS;
+use record::Endpoint;
+use record::INTERFACES;
+use record::Interface;
+use record::Kind;
+use record::NAMES;
+use record::Plan;
+use record::STRINGS;
 ghost use mathlib.Core.Path.{_≡_};
 ghost use mathlib.Core.Bool.{true};
 ghost use mathlib.Core.Option.{some};
@@ -173,17 +179,7 @@ fn put_interface(
     ensures { λ r. ⌜ Added r (now (buf .exit)) (interfaceSet (take m all) number x) (now (buf .entry)) at ⌝ }
 {
     let count = count_owned(all, m, number);
-    let d = [
-        9,
-        4,
-        number,
-        0,
-        count,
-        x.class,
-        x.subclass,
-        x.protocol,
-        0,
-    ];
+    let d = [9, 4, number, 0, count, x.class, x.subclass, x.protocol, 0];
     common::put(&d, 0, 9, buf, at);
     put_endpoints(all, m, number, buf, at + 9)
 }
@@ -209,7 +205,13 @@ fn count_owned(all: [Endpoint; ENDPOINTS], m: usize, number: u8) -> u8
     count
 }
 
-fn put_endpoints(all: [Endpoint; ENDPOINTS], m: usize, number: u8, buf: &mut [u8], at: usize) -> usize
+fn put_endpoints(
+    all: [Endpoint; ENDPOINTS],
+    m: usize,
+    number: u8,
+    buf: &mut [u8],
+    at: usize,
+) -> usize
     requires { ⌜ (m ≤ endpointRoom) × (at + length (joined (owned number (take m all))) ≤ length (now buf)) ⌝ }
     ensures { λ r. ⌜ Added r (now (buf .exit)) (joined (owned number (take m all))) (now (buf .entry)) at ⌝ }
 {

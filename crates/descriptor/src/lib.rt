@@ -6,8 +6,11 @@ mod text;
 mod write;
 
 use common::Refusal;
-use record::{LANGUAGES, NAMES, Plan, STRINGS, TEXT};
-
+use record::LANGUAGES;
+use record::NAMES;
+use record::Plan;
+use record::STRINGS;
+use record::TEXT;
 ghost use mathlib.Core.Option.{some};
 ghost use Rattle.limits.specs.Limits.{lowest};
 ghost use Rattle.descriptor.specs.Descriptor.{deviceBytes, configurationBytes, stringOf};

@@ -1,8 +1,11 @@
 // The language list and the strings.
 use super::Written;
 use common::Refusal;
-use record::{LANGUAGES, NAMES, STRINGS, TEXT, UNITS};
-
+use record::LANGUAGES;
+use record::NAMES;
+use record::STRINGS;
+use record::TEXT;
+use record::UNITS;
 ghost use mathlib.Core.Path.{_≡_};
 ghost use mathlib.Core.Bool.{true};
 ghost use mathlib.Core.Option.{some, Option·map};
@@ -58,7 +61,13 @@ fn find(ids: &[u16], id: u16, n: usize) -> Found
 }
 
 // The string at a place, if there is one.
-fn put_slot<'a>(lens: &'a [u8; STRINGS], units: &'a [u16; TEXT], slot: usize, buf: &mut [u8], at: usize) -> Written
+fn put_slot<'a>(
+    lens: &'a [u8; STRINGS],
+    units: &'a [u16; TEXT],
+    slot: usize,
+    buf: &mut [u8],
+    at: usize,
+) -> Written
     requires { ⌜ (slot < stringRoom) × (lengthFine (getD (now lens) slot 0) ≡ true) ⌝ }
     ensures { λ r. ⌜ Put r (now (buf .exit)) (Option·map textBytes (slotText (now (lens .entry)) (now (units .entry)) slot)) (now (buf .entry)) at ⌝ }
 {

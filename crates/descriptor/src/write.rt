@@ -1,7 +1,6 @@
 // Bytes into the lent buffer: a whole answer or nothing.
 use super::Written;
 use common::Refusal;
-
 ghost use mathlib.Core.Option.{some};
 ghost use Rattle.descriptor.specs.Writing.{Put};
 

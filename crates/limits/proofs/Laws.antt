@@ -1,9 +1,9 @@
 -- Laws of the limits that the loops cite. Assumes nothing.
 use Prim.Native.Nat.{ℕ}
-use mathlib.Core.Bool.{Bool, true, false, _&&_}
-use mathlib.Core.Path.{_≡_, refl, _∙_}
+use mathlib.Core.Bool.{true, false}
+use mathlib.Core.Path.{_≡_}
 use mathlib.Core.List.{List, [], _∷_, map}
-use Rattle.common.specs.Lists.{every, member, noneTwice}
+use Rattle.common.specs.Lists.{every, member}
 use Rattle.common.proofs.Laws.{and-false}
 use Rattle.common.proofs.Lists.{every-bad, every-next, every-nil, twice-bad, twice-next, twice-nil}
 use Rattle.record.specs.declared.Endpoint.{Endpoint}

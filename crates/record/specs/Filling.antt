@@ -1,8 +1,8 @@
 -- What each way to fill a record makes of it. What has no place spoils a count or a length, which refusals 2 and 3 then name.
 use Prim.Native.Nat.{ℕ, _+_, _-_, _*_}
 use mathlib.Core.Bool.{cond, _||_}
-use mathlib.Core.List.{List, [], _∷_}
-use lib.Dec.{ltb, leb, eqb}
+use mathlib.Core.List.{List}
+use lib.Dec.{ltb, eqb}
 use lib.ListN.{length, set, replicate}
 use Rattle.common.specs.Bytes.{placed}
 use Rattle.record.specs.declared.Basics.{Basics}

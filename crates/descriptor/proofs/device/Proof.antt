@@ -1,6 +1,5 @@
-use mathlib.Core.Path.{_≡_, refl, sym, ap, _∙_}
+use mathlib.Core.Path.{_≡_, sym, ap, _∙_}
 use denote.Ref.{now}
-use mathlib.Core.Bool.{true, false}
 use Rattle.common.specs.Refusals.{numberOf}
 use Rattle.limits.specs.Limits.{lowest}
 use Rattle.limits.proofs.Good.{good, lowest-number, tongue-facts}
@@ -8,38 +7,18 @@ use Rattle.descriptor.proofs.Laws.{wrote-refused, wrote-put}
 use borrow.Author.Needs.{needs}
 use Rattle.descriptor.proofs.device.Statement.{statement}
 use Rattle.descriptor.proofs.device.Tie as tie
-use Rattle.descriptor.proofs.device.Reads as reads
-use Rattle.descriptor.proofs.device.Lts as lts
-use Rattle.common.proofs.Refusal.number.Reads as number-reads
-use Rattle.descriptor.proofs.config.device.Reads as device-reads
-use Rattle.limits.proofs.broken.Reads as broken-reads
 
--- src/lib.rt:33:9
-broken-requires : tie.Need-broken-requires
-broken-requires c κs = search needs
-
--- src/lib.rt:34:8
-number-requires : tie.Need-number-requires
-number-requires c κs = search needs
-
--- src/lib.rt:35:9
 returns : tie.Need-returns
 returns c =
     let a = c .before .before .before .before .args in
     wrote-refused (λ k. c .if1 .taken (c .before .number .ensures ∙ (ap numberOf (c .before .before .broken .ensures) ∙ (lowest-number (a .plan) (now (a .ids)) (now (a .lens)) ∙ k)))) (c .before .before .broken .ensures)
 
--- src/lib.rt:37:5
 device-requires : tie.Need-device-requires
 device-requires c κs =
     let a = c .before .before .before .before .before .args in
     let z : lowest (a .plan) (now (a .ids)) (now (a .lens)) ≡ 0 = sym (lowest-number (a .plan) (now (a .ids)) (now (a .lens))) ∙ (sym (ap numberOf (c .before .before .before .broken .ensures)) ∙ (sym (c .before .before .number .ensures) ∙ c .before .if1 .left)) in
     tongue-facts _ _ _ (good (a .plan) (now (a .ids)) (now (a .lens)) z .languages) .few
 
--- src/lib.rt:24:1
-same-length : tie.Need-same-length
-same-length c = search needs
-
--- src/lib.rt:24:1
 returns-2 : tie.Need-returns-2
 returns-2 c =
     let a = c .before .before .before .before .before .before .before .before .args in
@@ -49,4 +28,4 @@ returns-2 c =
 pub device-spec : {M : Type 1} → statement M
 device-spec =
     tie.close
-    (tie.spec broken-requires number-requires returns device-requires same-length returns-2)
+    (tie.spec (λ c κs. search needs) (λ c κs. search needs) returns device-requires (λ c. search needs) returns-2)

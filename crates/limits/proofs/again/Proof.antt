@@ -1,10 +1,9 @@
-use Prim.Native.Nat.{_+_, _-_, _*_, _≤_}
+use Prim.Native.Nat.{_-_}
 use mathlib.Core.Path.{_≡_, refl, sym, _∙_}
 use native.Mathlib.Omega.{arith}
 use borrow.Author.Needs.{needs}
-use lib.ListN.{length, getD, take, drop}
+use lib.ListN.{length, take, drop}
 use mathlib.Core.List.{List, map}
-use mathlib.Core.Bool.{Bool}
 use Rattle.common.specs.Lists.{member}
 use Rattle.common.proofs.Lists.{turn, ended, member-here, member-next, member-nil}
 use Rattle.record.specs.declared.Endpoint.{Endpoint}

@@ -1,6 +1,5 @@
 use borrow.Author.Needs.{needs}
 use Rattle.common.proofs.Laws.{tests}
-use Rattle.common.specs.Lists.{member}
 use Rattle.limits.specs.Limits.{endpointFine}
 use Rattle.limits.proofs.endpoint_fine.Statement.{statement}
 use Rattle.limits.proofs.endpoint_fine.Tie as tie

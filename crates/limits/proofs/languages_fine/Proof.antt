@@ -1,7 +1,5 @@
-use mathlib.Core.Path.{_≡_, refl, sym, _∙_}
+use mathlib.Core.Path.{_≡_, sym, _∙_}
 use mathlib.Core.Bool.{true, false}
-use Prim.Native.Nat.{ℕ}
-use mathlib.Core.List.{List}
 use lib.Dec.{leb}
 use lib.ListN.{take}
 use denote.Ref.{now}

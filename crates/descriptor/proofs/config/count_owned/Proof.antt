@@ -1,20 +1,15 @@
-use Prim.Native.Nat.{_+_, _-_, _*_, _≤_, _<_}
-use mathlib.Core.Path.{_≡_, refl, sym, ap, _∙_}
+use Prim.Native.Nat.{_+_, _-_, _≤_}
+use mathlib.Core.Path.{_≡_, ap, _∙_}
 use native.Mathlib.Omega.{arith}
 use borrow.Author.Needs.{needs}
 use lib.ListN.{length, getD, take, drop}
 use mathlib.Core.List.{[], _∷_}
-use lib.ListN.{length-append}
 use Rattle.common.proofs.Laws.{rest-cons, rest-nil}
 use Rattle.limits.proofs.Laws.{blank}
-use Rattle.record.specs.declared.Endpoint.{Endpoint}
 use Rattle.descriptor.specs.Descriptor.{owned}
 use Rattle.descriptor.proofs.Laws.{owned-count, owned-nil, owned-most}
 use Rattle.descriptor.proofs.config.count_owned.Statement.{statement}
 use Rattle.descriptor.proofs.config.count_owned.Tie as tie
-use Rattle.descriptor.proofs.config.count_owned.Reads as reads
-use Rattle.descriptor.proofs.config.count_owned.Lts as lts
-use Rattle.descriptor.proofs.config.one_if.Reads as one-if-reads
 
 abbrev Inv-loop : tie.InvT-loop
 Inv-loop m number all count₀ j₀ count j = (j ≤ m) × (length (owned number (take m all)) ≡ count + length (owned number (drop j (take m all)))) × (count ≤ j)
@@ -22,35 +17,12 @@ Inv-loop m number all count₀ j₀ count j = (j ≤ m) × (length (owned number
 abbrev μ-loop : tie.MeasureT-loop
 μ-loop m number all count₀ j₀ count j = m - j
 
--- src/config.rt:189:5
 loop-holds : tie.Need-loop-holds Inv-loop μ-loop
 loop-holds c = (search needs, omega arith, search needs)
 
--- src/config.rt:190:17
-mul-e : tie.Need-mul-e Inv-loop μ-loop
-mul-e c = search needs
-
--- src/config.rt:190:17
-array-copy-out-e : tie.Need-array-copy-out-e Inv-loop μ-loop
-array-copy-out-e c = search needs
-
--- src/config.rt:191:18
-one-if-requires : tie.Need-one-if-requires Inv-loop μ-loop
-one-if-requires c κs = search needs
-
--- src/config.rt:191:9
 add-count : tie.Need-add-count Inv-loop μ-loop
 add-count c = let o = owned-most (c .before .before .before .before .args .number) (getD (c .before .before .before .before .args .t1) (c .before .before .before .loop .j) blank ∷ []) in omega (arith, c .one-if .ensures, o, c .before .before .before .loop .inv .2, c .before .before .loop-test .taken, c .before .before .before .before .pre)
 
--- src/config.rt:192:9
-add-j : tie.Need-add-j Inv-loop μ-loop
-add-j c = search needs
-
--- src/config.rt:189:5
-loop-less : tie.Need-loop-less Inv-loop μ-loop
-loop-less c = search needs
-
--- src/config.rt:189:5
 loop-again : tie.Need-loop-again Inv-loop μ-loop
 loop-again c =
     let a = c .before .before .before .before .args in
@@ -63,7 +35,6 @@ loop-again c =
     let o = owned-most (a .number) (e ∷ []) in
     (omega arith, omega (arith, t, s, c .one-if .ensures), omega (arith, o, c .one-if .ensures))
 
--- src/config.rt:183:1
 returns : tie.Need-returns Inv-loop μ-loop
 returns c =
     let a = c .before .before .args in
@@ -78,11 +49,11 @@ count-owned-spec =
     Inv-loop
     μ-loop
     loop-holds
-    mul-e
-    array-copy-out-e
-    one-if-requires
+    (λ c. search needs)
+    (λ c. search needs)
+    (λ c κs. search needs)
     add-count
-    add-j
-    loop-less
+    (λ c. search needs)
+    (λ c. search needs)
     loop-again
     returns)

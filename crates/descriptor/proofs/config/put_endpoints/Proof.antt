@@ -1,19 +1,15 @@
-use Prim.Native.Nat.{_+_, _-_, _*_, _/_, _%_, _≤_, _<_}
-use mathlib.Core.Path.{_≡_, refl, sym, ap, _∙_}
+use Prim.Native.Nat.{_+_, _-_, _≤_}
+use mathlib.Core.Path.{_≡_, refl}
 use native.Mathlib.Omega.{arith}
 use borrow.Author.Needs.{needs}
 use lib.ListN.{length, getD, take, drop}
-use denote.Ref.{now}
-use mathlib.Core.List.{List, [], _∷_}
+use mathlib.Core.List.{[], _∷_}
 use Rattle.descriptor.specs.Descriptor.{owned, joined}
 use Rattle.descriptor.proofs.Laws.{endpoints-turn, endpoints-end}
 use Rattle.common.proofs.Pending.{Pending, pending-start, pending-as, pending-room, pending-turn, pending-end}
 use Rattle.limits.proofs.Laws.{blank}
 use Rattle.descriptor.proofs.config.put_endpoints.Statement.{statement}
 use Rattle.descriptor.proofs.config.put_endpoints.Tie as tie
-use Rattle.descriptor.proofs.config.put_endpoints.Reads as reads
-use Rattle.descriptor.proofs.config.put_endpoints.Lts as lts
-use Rattle.descriptor.proofs.config.put_own.Reads as put-own-reads
 
 abbrev Inv-loop : tie.InvT-loop
 Inv-loop m number buf₀ at all p₀ j₀ buf p j = (j ≤ m) × Pending (joined (owned number (take m all))) buf₀ at (joined (owned number (drop j (take m all)))) buf p
@@ -21,19 +17,9 @@ Inv-loop m number buf₀ at all p₀ j₀ buf p j = (j ≤ m) × Pending (joined
 abbrev μ-loop : tie.MeasureT-loop
 μ-loop m number buf₀ at all p₀ j₀ buf p j = m - j
 
--- src/config.rt:203:5
 loop-holds : tie.Need-loop-holds Inv-loop μ-loop
 loop-holds c = (search needs, pending-start refl (c .before .pre .1))
 
--- src/config.rt:204:17
-mul-e : tie.Need-mul-e Inv-loop μ-loop
-mul-e c = search needs
-
--- src/config.rt:204:17
-array-copy-out-e : tie.Need-array-copy-out-e Inv-loop μ-loop
-array-copy-out-e c = search needs
-
--- src/config.rt:205:9
 put-own-requires : tie.Need-put-own-requires Inv-loop μ-loop
 put-own-requires c κs =
     let a = c .before .before .before .before .before .args in
@@ -41,15 +27,6 @@ put-own-requires c κs =
     let l : length (a .t1) ≡ 8 = search needs in
     pending-room (joined (owned (a .number) (getD (a .t1) (w .j) blank ∷ []))) (joined (owned (a .number) (drop (w .j + 1) (take (a .m) (a .t1))))) (pending-as (endpoints-turn (a .number) (a .t1) (a .m) (w .j) blank (omega arith) (c .before .before .loop-test .taken)) (w .inv .1))
 
--- src/config.rt:206:9
-add-j : tie.Need-add-j Inv-loop μ-loop
-add-j c = search needs
-
--- src/config.rt:203:5
-loop-less : tie.Need-loop-less Inv-loop μ-loop
-loop-less c = search needs
-
--- src/config.rt:203:5
 loop-again : tie.Need-loop-again Inv-loop μ-loop
 loop-again c =
     let a = c .before .before .before .before .before .before .before .before .args in
@@ -57,11 +34,9 @@ loop-again c =
     let l : length (a .t1) ≡ 8 = search needs in
     (omega arith, pending-turn (joined (owned (a .number) (getD (a .t1) (w .j) blank ∷ []))) (joined (owned (a .number) (drop (w .j + 1) (take (a .m) (a .t1))))) (pending-as (endpoints-turn (a .number) (a .t1) (a .m) (w .j) blank (omega arith) (c .before .before .before .before .before .loop-test .taken)) (w .inv .1)) (c .before .before .put-own .ensures .buffer) (c .before .before .put-own .ensures .next))
 
--- src/config.rt:197:1
 same-length : tie.Need-same-length Inv-loop μ-loop
 same-length c = c .before .loop .inv .1 .long
 
--- src/config.rt:197:1
 returns : tie.Need-returns Inv-loop μ-loop
 returns c =
     let a = c .before .before .before .args in
@@ -76,11 +51,11 @@ put-endpoints-spec =
     Inv-loop
     μ-loop
     loop-holds
-    mul-e
-    array-copy-out-e
+    (λ c. search needs)
+    (λ c. search needs)
     put-own-requires
-    add-j
-    loop-less
+    (λ c. search needs)
+    (λ c. search needs)
     loop-again
     same-length
     returns)

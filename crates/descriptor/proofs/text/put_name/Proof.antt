@@ -1,37 +1,17 @@
-use Prim.Native.Nat.{_+_, _-_, _*_, _/_, _%_, _≤_, _<_}
-use mathlib.Core.Path.{_≡_, refl, sym, ap, _∙_}
+use Prim.Native.Nat.{_+_, _*_, _<_}
+use mathlib.Core.Path.{_≡_, refl, sym, _∙_}
 use native.Mathlib.Omega.{arith}
-use lib.ListN.{length, getD, take, drop}
 use denote.Ref.{now}
-use mathlib.Core.Bool.{true, false}
-use mathlib.Core.Option.{some, none, Option·map}
+use mathlib.Core.Option.{some, none}
 use Rattle.common.proofs.Lists.{every-at}
-use lib.Seq.{length-take-le, getD-take}
-use Rattle.record.specs.Sizes.{names, stringRoom}
+use Rattle.record.specs.Sizes.{names}
 use Rattle.limits.specs.Limits.{lengthFine}
-use Rattle.descriptor.specs.Descriptor.{textBytes, languageAt, nameAt}
+use Rattle.descriptor.specs.Descriptor.{languageAt, nameAt}
 use Rattle.descriptor.proofs.Laws.{found-at, found-none, language-below, put-missing}
 use borrow.Author.Needs.{needs}
 use Rattle.descriptor.proofs.text.put_name.Statement.{statement}
 use Rattle.descriptor.proofs.text.put_name.Tie as tie
-use Rattle.descriptor.proofs.text.put_name.Reads as reads
-use Rattle.descriptor.proofs.text.put_name.Lts as lts
-use Rattle.descriptor.proofs.text.find.Reads as find-reads
-use Rattle.descriptor.proofs.text.put_slot.Reads as put-slot-reads
 
--- src/text.rt:38:9
-find-requires : tie.Need-find-requires
-find-requires c κs = search needs
-
--- src/text.rt:40:27
-enum-told : tie.Need-enum-told
-enum-told c = search needs
-
--- src/text.rt:41:19
-enum-known-found : tie.Need-enum-known-found
-enum-known-found c = search needs
-
--- src/text.rt:41:47
 mul-put-slot : tie.Need-mul-put-slot
 mul-put-slot c =
     let s = c .before .before .before .before .before .before in
@@ -40,7 +20,6 @@ mul-put-slot c =
     let b = language-below (now (a .ids)) (a .language) (a .n) (c .before .found .given .0 .0) o in
     omega (arith, b, s .pre .0)
 
--- src/text.rt:41:47
 add-put-slot : tie.Need-add-put-slot
 add-put-slot c =
     let s = c .before .before .before .before .before .before in
@@ -49,7 +28,6 @@ add-put-slot c =
     let b = language-below (now (a .ids)) (a .language) (a .n) (c .before .found .given .0 .0) o in
     omega (arith, b, s .pre .0, s .pre .1)
 
--- src/text.rt:41:25
 put-slot-requires : tie.Need-put-slot-requires
 unfolding lengthFine
 put-slot-requires c κs =
@@ -61,7 +39,6 @@ put-slot-requires c κs =
     let k : 3 * i + a .name < names * a .n = omega (arith, b, s .pre .1) in
     (omega (arith, k, s .pre .0), every-at lengthFine (now (a .lens)) (names * a .n) (3 * i + a .name) 0 k refl (s .pre .2))
 
--- src/text.rt:25:1
 returns : tie.Need-returns
 unfolding nameAt
 returns c =
@@ -69,11 +46,6 @@ returns c =
     let o : languageAt (now (a .ids)) (a .language) (a .n) ≡ none = found-none _ (sym (c .enum-told .given .1) ∙ c .before .before .find .ensures) in
     rw o put-missing
 
--- src/text.rt:25:1
-same-length : tie.Need-same-length
-same-length c = search needs
-
--- src/text.rt:25:1
 returns-2 : tie.Need-returns-2
 unfolding nameAt
 returns-2 c =
@@ -85,12 +57,12 @@ pub put-name-spec : {M : Type 1} → statement M
 put-name-spec =
     tie.close
     (tie.spec
-    find-requires
-    enum-told
-    enum-known-found
+    (λ c κs. search needs)
+    (λ c. search needs)
+    (λ c. search needs)
     mul-put-slot
     add-put-slot
     put-slot-requires
     returns
-    same-length
+    (λ c. search needs)
     returns-2)

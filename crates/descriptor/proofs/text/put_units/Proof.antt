@@ -1,20 +1,16 @@
-use Prim.Native.Nat.{_+_, _-_, _*_, _/_, _%_, _≤_, _<_}
-use mathlib.Core.Path.{_≡_, refl, sym, ap, _∙_}
+use Prim.Native.Nat.{_+_, _-_, _*_, _/_, _%_, _≤_}
+use mathlib.Core.Path.{_≡_, ap}
 use native.Mathlib.Omega.{arith}
 use borrow.Author.Needs.{needs}
-use lib.ListN.{length, getD, take, drop}
+use lib.ListN.{getD, drop}
 use denote.Ref.{now}
-use mathlib.Core.List.{List, [], _∷_}
-use Rattle.common.specs.Bytes.{part, placed}
+use mathlib.Core.List.{[], _∷_}
+use Rattle.common.specs.Bytes.{part}
 use Rattle.descriptor.specs.Descriptor.{unitBytes}
 use Rattle.descriptor.proofs.Laws.{units-turn, units-end, length-units, length-part}
 use Rattle.common.proofs.Pending.{Pending, pending-start, pending-as, pending-room, pending-turn, pending-end}
 use Rattle.descriptor.proofs.text.put_units.Statement.{statement}
 use Rattle.descriptor.proofs.text.put_units.Tie as tie
-use Rattle.descriptor.proofs.text.put_units.Reads as reads
-use Rattle.descriptor.proofs.text.put_units.Lts as lts
-use Rattle.common.proofs.split.Reads as split-reads
-use Rattle.descriptor.proofs.text.put_two.Reads as put-two-reads
 
 abbrev Inv-loop : tie.InvT-loop
 Inv-loop src from n buf₀ at i₀ buf i = (i ≤ n) × Pending (unitBytes (part from n src)) buf₀ at (unitBytes (drop i (part from n src))) buf (at + 2 * i)
@@ -22,7 +18,6 @@ Inv-loop src from n buf₀ at i₀ buf i = (i ≤ n) × Pending (unitBytes (part
 abbrev μ-loop : tie.MeasureT-loop
 μ-loop src from n buf₀ at i₀ buf i = n - i
 
--- src/text.rt:91:5
 loop-holds : tie.Need-loop-holds Inv-loop μ-loop
 loop-holds c =
     let s = c .before .before in
@@ -31,31 +26,6 @@ loop-holds c =
     let k = length-part (now (a .src)) (a .from) (a .n) (s .pre .0) in
     (search needs, pending-start (omega arith) (omega (arith, e, k, s .pre .1)))
 
--- src/text.rt:92:35
-add-split : tie.Need-add-split Inv-loop μ-loop
-add-split c = search needs
-
--- src/text.rt:92:31
-mul-split : tie.Need-mul-split Inv-loop μ-loop
-mul-split c = search needs
-
--- src/text.rt:92:31
-shared-slice-read-split : tie.Need-shared-slice-read-split Inv-loop μ-loop
-shared-slice-read-split c = search needs
-
--- src/text.rt:92:13
-split-requires : tie.Need-split-requires Inv-loop μ-loop
-split-requires c κs = search needs
-
--- src/text.rt:93:42
-mul-put-two : tie.Need-mul-put-two Inv-loop μ-loop
-mul-put-two c = search needs
-
--- src/text.rt:93:37
-add-put-two : tie.Need-add-put-two Inv-loop μ-loop
-add-put-two c = search needs
-
--- src/text.rt:93:9
 put-two-requires : tie.Need-put-two-requires Inv-loop μ-loop
 put-two-requires c κs =
     let s = c .before .before .before .before .before .before .before in
@@ -63,15 +33,6 @@ put-two-requires c κs =
     let w = c .before .before .before .before .loop in
     pending-room (getD (now (a .src)) (a .from + w .i) 0 % 256 ∷ getD (now (a .src)) (a .from + w .i) 0 / 256 ∷ []) (unitBytes (drop (w .i + 1) (part (a .from) (a .n) (now (a .src))))) (pending-as (units-turn (now (a .src)) (a .from) (a .n) (w .i) (s .pre .0) (c .before .before .before .loop-test .taken)) (w .inv .1))
 
--- src/text.rt:94:9
-add-i : tie.Need-add-i Inv-loop μ-loop
-add-i c = search needs
-
--- src/text.rt:91:5
-loop-less : tie.Need-loop-less Inv-loop μ-loop
-loop-less c = search needs
-
--- src/text.rt:91:5
 loop-again : tie.Need-loop-again Inv-loop μ-loop
 loop-again c =
     let s = c .before .before .before .before .before .before .before .before .before .before in
@@ -81,11 +42,9 @@ loop-again c =
     let hi : c .before .before .before .before .split .result .high ≡ getD (now (a .src)) (a .from + w .i) 0 / 256 = ap (λ h. h .high) (c .before .before .before .before .split .ensures) in
     (omega arith, pending-turn (getD (now (a .src)) (a .from + w .i) 0 % 256 ∷ getD (now (a .src)) (a .from + w .i) 0 / 256 ∷ []) (unitBytes (drop (w .i + 1) (part (a .from) (a .n) (now (a .src))))) (pending-as (units-turn (now (a .src)) (a .from) (a .n) (w .i) (s .pre .0) (c .before .before .before .before .before .before .loop-test .taken)) (w .inv .1)) (rw (← lo, ← hi) (c .before .before .put-two .ensures)) (omega arith))
 
--- src/text.rt:86:1
 same-length : tie.Need-same-length Inv-loop μ-loop
 same-length c = c .before .loop .inv .1 .long
 
--- src/text.rt:86:1
 returns : tie.Need-returns Inv-loop μ-loop
 returns c =
     let a = c .before .before .before .before .args in
@@ -99,15 +58,15 @@ put-units-spec =
     Inv-loop
     μ-loop
     loop-holds
-    add-split
-    mul-split
-    shared-slice-read-split
-    split-requires
-    mul-put-two
-    add-put-two
+    (λ c. search needs)
+    (λ c. search needs)
+    (λ c. search needs)
+    (λ c κs. search needs)
+    (λ c. search needs)
+    (λ c. search needs)
     put-two-requires
-    add-i
-    loop-less
+    (λ c. search needs)
+    (λ c. search needs)
     loop-again
     same-length
     returns)

@@ -1,36 +1,18 @@
-use mathlib.Core.Path.{_≡_, refl, sym, ap, _∙_}
+use mathlib.Core.Path.{_≡_, refl, sym, _∙_}
 use denote.Ref.{now}
-use lib.ListN.{length, getD, take, drop}
+use lib.ListN.{length}
 use borrow.Author.Tests.{leb-true, not-true, not-false}
 use Rattle.common.specs.Bytes.{inside}
-use mathlib.Core.Bool.{true, false}
+use mathlib.Core.Bool.{true}
 use Rattle.descriptor.proofs.Laws.{put-refused, put-done}
 use Rattle.common.proofs.Laws.{stored-whole}
 use borrow.Author.Needs.{needs}
 use Rattle.descriptor.proofs.write.put_whole.Statement.{statement}
 use Rattle.descriptor.proofs.write.put_whole.Tie as tie
-use Rattle.descriptor.proofs.write.put_whole.Reads as reads
-use Rattle.descriptor.proofs.write.put_whole.Lts as lts
-use Rattle.common.proofs.put.Reads as put-reads
-use Rattle.common.proofs.within.Reads as within-reads
 
--- src/write.rt:12:9
-within-requires : tie.Need-within-requires
-within-requires c κs = search needs
-
--- src/write.rt:13:9
 returns : tie.Need-returns
 returns c = put-refused (sym (c .before .within .ensures) ∙ not-true _ (c .if1 .taken))
 
--- src/write.rt:15:5
-put-requires : tie.Need-put-requires
-put-requires c κs = search needs
-
--- src/write.rt:8:1
-same-length : tie.Need-same-length
-same-length c = search needs
-
--- src/write.rt:8:1
 returns-2 : tie.Need-returns-2
 returns-2 c =
     let a = c .before .before .before .before .before .before .before .before .args in
@@ -38,4 +20,4 @@ returns-2 c =
     put-done t refl (c .before .before .put .ensures ∙ stored-whole (now (a .buf)) (now (a .src)) (a .at) (length (now (a .src))) refl (leb-true _ _ t))
 
 pub put-whole-spec : {M : Type 1} → statement M
-put-whole-spec = tie.close (tie.spec within-requires returns put-requires same-length returns-2)
+put-whole-spec = tie.close (tie.spec (λ c κs. search needs) returns (λ c κs. search needs) (λ c. search needs) returns-2)
