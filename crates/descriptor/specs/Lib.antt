@@ -1,2 +1,2 @@
-pub mod Descriptor
+pub mod Device
 pub mod Writing

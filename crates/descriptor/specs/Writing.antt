@@ -1,6 +1,6 @@
 -- Document 01, "When the mast says no": what a call that writes a descriptor answers, and what it leaves in the lent buffer.
 -- The answer that is asked for is a whole list of bytes, or none where there is no such string.
-use Prim.Native.Nat.{ℕ, _+_}
+use Prim.Native.Nat.{ℕ}
 use mathlib.Core.Bool.{cond}
 use mathlib.Core.List.{List}
 use mathlib.Core.Option.{Option, some, none}
@@ -11,8 +11,6 @@ use Rattle.common.specs.Bytes.{inside, placed}
 use Rattle.common.specs.Refusals.{refusal}
 use Rattle.descriptor.specs.declared.Written.{Written}
 use Rattle.descriptor.specs.declared.Written.the-variants.{Bytes, Missing, Refused}
-use Rattle.descriptor.specs.declared.text.Found.{Found}
-use Rattle.descriptor.specs.declared.text.Found.the-variants.{At, Nowhere}
 
 -- of a good record: the whole answer at its place, or refusal 12 and nothing where the room left is less
 unfoldable pub putAnswer : Option (List ℕ) → List ℕ → ℕ → Written
@@ -37,18 +35,3 @@ pub record Put (r : Written) (exit : List ℕ) (answer : Option (List ℕ)) (ent
 pub record Wrote (r : Written) (exit : List ℕ) (number : ℕ) (answer : Option (List ℕ)) (entry : List ℕ) (at : ℕ) : Type 0 where
   pub value : r ≡ wroteAnswer number answer entry at
   pub buffer : exit ≡ wroteBuffer number answer entry at
-
--- of bytes that fit: they stand at their place, and the next place is behind them
-pub record Added (r : ℕ) (exit : List ℕ) (bytes : List ℕ) (entry : List ℕ) (at : ℕ) : Type 0 where
-  pub next : r ≡ at + length bytes
-  pub buffer : exit ≡ placed entry at bytes
-
--- a place as the code has it
-unfoldable pub foundOf : Option ℕ → Found
-foundOf none = Nowhere
-foundOf (some i) = At i
-
--- a list as it is, with its length
-pub record Listed {A : Type 0} (r l : List A) (n : ℕ) : Type 0 where
-  pub same : r ≡ l
-  pub long : length l ≡ n

@@ -1,13 +1,14 @@
 -- What a record that no number refuses keeps to. Assumes nothing.
 use Prim.Native.Nat.{ℕ, _*_, _≤_}
 use mathlib.Core.Bool.{Bool, true, false, cond, _&&_}
-use mathlib.Core.Path.{_≡_, refl}
+use mathlib.Core.Path.{_≡_, refl, sym, ap, _∙_}
 use mathlib.Core.List.{List}
 use native.Mathlib.Omega.{arith}
 use borrow.Author.Tests.{leb-true}
 use lib.Dec.{leb}
 use lib.ListN.{take}
 use Rattle.common.specs.Refusals.{numberOf, refusal}
+use Rattle.common.specs.declared.Refusal.{Refusal}
 use Rattle.common.specs.Lists.{between, every, noneTwice}
 use Rattle.common.proofs.Laws.{cond-elim, and-left, and-right}
 use Rattle.record.specs.Sizes.{interfaceRoom, endpointRoom, languageRoom, names}
@@ -29,6 +30,13 @@ module _ (p : Plan) (ids lens : List ℕ) where
       cond-elim P (packetFine (p .basics .packet)) _ _
       (λ e. cond-elim P (layoutFine p) _ _ (λ e. cond-elim P (languagesFine (p .languages) ids lens) 0 3 (λ e. refl) (λ e. refl)) (λ e. refl))
       (λ e. refl)
+
+  -- what a caller learns that asks for the number of a record's refusal
+  pub told-none : {why : Refusal} {n : ℕ} → why ≡ refusal (lowest p ids lens) → n ≡ numberOf why → n ≡ 0 → lowest p ids lens ≡ 0
+  told-none e k z = sym lowest-number ∙ (sym (ap numberOf e) ∙ (sym k ∙ z))
+
+  pub told-some : {why : Refusal} {n : ℕ} → why ≡ refusal (lowest p ids lens) → n ≡ numberOf why → (n ≡ 0 → ⊥) → lowest p ids lens ≡ 0 → ⊥
+  told-some e k z l = z (k ∙ (ap numberOf e ∙ (lowest-number ∙ l)))
 
   pub record Good : Type 0 where
     pub packet : packetFine (p .basics .packet) ≡ true

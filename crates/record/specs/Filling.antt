@@ -82,11 +82,14 @@ slotOf language name = names * language + name
 abbrev pub withLength : ℕ → ℕ → Record → Record
 withLength at n r = record { plan = r .plan; ids = r .ids; lens = set (r .lens) at n; units = r .units }
 
--- a string of the language that was added last; one that is too long spoils its length, one of no language spoils their count
+-- the string at a place; one that is too long spoils its length
+unfoldable pub withText : ℕ → List ℕ → Record → Record
+withText at us r =
+    cond (ltb unitRoom (length us)) (withLength at spoilt r)
+    (record { plan = r .plan; ids = r .ids; lens = set (r .lens) at (length us + 1); units = placed (r .units) (unitRoom * at) us })
+
+-- a string of the language that was added last; one of no language spoils their count
 unfoldable pub withString : Name → List ℕ → Record → Record
 withString name us r =
     let n = r .plan .languages in
-    let at = slotOf (n - 1) (nameOf name) in
-    cond (eqb n 0 || ltb languageRoom n) (withPlan (withLanguages spoilt (r .plan)) r)
-    (cond (ltb unitRoom (length us)) (withLength at spoilt r)
-    (record { plan = r .plan; ids = r .ids; lens = set (r .lens) at (length us + 1); units = placed (r .units) (unitRoom * at) us }))
+    cond (eqb n 0 || ltb languageRoom n) (withPlan (withLanguages spoilt (r .plan)) r) (withText (slotOf (n - 1) (nameOf name)) us r)

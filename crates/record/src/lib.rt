@@ -6,7 +6,7 @@ ghost use mathlib.Core.Path.{_≡_};
 ghost use Prim.Native.Nat.{_+_, _≤_, _<_};
 ghost use lib.ListN.{length, replicate};
 ghost use Rattle.record.specs.Sizes.{names, stringRoom};
-ghost use Rattle.record.specs.Filling.{addInterface, addEndpoint, bare, withPlan, withLanguages, withInterface, withEndpoint, withLanguage, withString, withLength, nameOf};
+ghost use Rattle.record.specs.Filling.{addInterface, addEndpoint, bare, withPlan, withLanguages, withInterface, withEndpoint, withLanguage, withString, withText, withLength, nameOf};
 ghost use Rattle.common.specs.Bytes.{placed};
 
 // The sizes, each named once.
@@ -232,6 +232,14 @@ impl Record {
             return self.counting(SPOILT);
         }
         let at = NAMES * (n - 1) + name.place();
+        self.naming(at, units)
+    }
+
+    // The same with the string at a place.
+    fn naming(self, at: usize, units: &[u16]) -> Record
+        requires { ⌜ at < stringRoom ⌝ }
+        ensures { λ r. ⌜ r ≡ withText at (now (units .entry)) self ⌝ }
+    {
         if UNITS < units.len() {
             return self.measuring(at, SPOILT);
         }

@@ -1,11 +1,8 @@
 use mathlib.Core.Path.{_≡_}
 use mathlib.Core.Bool.{true, false}
-use native.Mathlib.Omega.{arith}
-use denote.Ref.{now}
 use lib.Dec.{ltb, eqb}
-use lib.ListN.{length}
 use borrow.Author.Tests.{lt-ltb, le-ltb, ne-eqb}
-use Rattle.record.specs.Sizes.{languageRoom, unitRoom, textRoom}
+use Rattle.record.specs.Sizes.{languageRoom}
 use Rattle.record.specs.Filling.{withString}
 use borrow.Author.Needs.{needs}
 use Rattle.record.proofs.Record.with_string.Statement.{statement}
@@ -26,23 +23,10 @@ returns-2 c =
 returns-3 : tie.Need-returns-3
 unfolding withString
 returns-3 c =
-    let n = c .before .before .before .before .before .before .before .args .self .plan .languages in
-    let z : eqb n 0 ≡ false = ne-eqb _ _ (c .before .before .before .before .if1 .left) in
-    let o : ltb languageRoom n ≡ false = le-ltb _ _ (c .before .before .before .if2 .left) in
-    let u : ltb unitRoom (length (now (c .before .before .before .before .before .before .before .args .units))) ≡ true = lt-ltb _ _ (c .before .if3 .taken) in
-    rw (z, o, u, ← c .before .before .place .ensures .0) (c .measuring .ensures)
-
-copy-units-requires : tie.Need-copy-units-requires
-copy-units-requires c κs = let l : length (c .before .before .before .before .before .before .before .before .args .self .units) ≡ textRoom = search needs in omega (arith, l, c .before .before .before .place .ensures)
-
-returns-4 : tie.Need-returns-4
-unfolding withString
-returns-4 c =
-    let n = c .before .before .before .before .before .before .before .before .before .before .before .args .self .plan .languages in
-    let z : eqb n 0 ≡ false = ne-eqb _ _ (c .before .before .before .before .before .before .before .before .if1 .left) in
-    let o : ltb languageRoom n ≡ false = le-ltb _ _ (c .before .before .before .before .before .before .before .if2 .left) in
-    let u : ltb unitRoom (length (now (c .before .before .before .before .before .before .before .before .before .before .before .args .units))) ≡ false = le-ltb _ _ (c .before .before .before .before .before .if3 .left) in
-    rw (z, o, u, ← c .before .before .before .before .before .before .place .ensures .0, c .measuring2 .ensures, c .before .before .copy-units .ensures)
+    let n = c .before .before .before .before .before .before .args .self .plan .languages in
+    let z : eqb n 0 ≡ false = ne-eqb _ _ (c .before .before .before .if1 .left) in
+    let o : ltb languageRoom n ≡ false = le-ltb _ _ (c .before .before .if2 .left) in
+    rw (z, o, ← c .before .place .ensures .0) (c .naming .ensures)
 
 pub with-string-spec : {M : Type 1} → statement M
 with-string-spec =
@@ -58,11 +42,4 @@ with-string-spec =
     (λ c κs. search needs)
     (λ c. search needs)
     (λ c κs. search needs)
-    returns-3
-    (λ c. search needs)
-    (λ c. search needs)
-    copy-units-requires
-    (λ c. search needs)
-    (λ c. search needs)
-    (λ c κs. search needs)
-    returns-4)
+    returns-3)
