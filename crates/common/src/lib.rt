@@ -1,6 +1,6 @@
 // What the mast's crates share: the refusals, words of two bytes, and the one copy of bytes.
 ghost use mathlib.Core.Path.{_≡_};
-ghost use Prim.Native.Nat.{_+_, _*_, _/_, _%_, _≤_};
+ghost use Prim.Native.Nat.{_+_, _/_, _%_, _≤_};
 ghost use lib.ListN.{length};
 ghost use lib.Dec.{leb};
 ghost use Rattle.common.specs.Refusals.{numberOf};
@@ -59,13 +59,6 @@ pub fn split(x: u16) -> Halves
         low: (x % 256) as u8,
         high: (x / 256) as u8,
     }
-}
-
-// The word of two bytes, the low one first.
-pub fn word(first: u8, second: u8) -> u16
-    ensures { λ r. ⌜ r ≡ first + 256 * second ⌝ }
-{
-    first as u16 + 256 * (second as u16)
 }
 
 // Whether n bytes from `at` on lie within `len` bytes.

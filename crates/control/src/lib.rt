@@ -1,6 +1,7 @@
 // A control request read from a SETUP packet, and the three kinds of number that a request can name.
 use common::Refusal;
 ghost use mathlib.Core.Path.{_≡_};
+ghost use Prim.Native.Nat.{_+_, _*_};
 ghost use Rattle.control.specs.Setup.{directionOf, typeOf, recipientOf, parsed, typeIndexOf};
 
 // The address of a device on the bus.
@@ -88,6 +89,13 @@ fn recipient_of(b: u8) -> Recipient
     }
 }
 
+// The word of two bytes, the low one first.
+fn word(first: u8, second: u8) -> u16
+    ensures { λ r. ⌜ r ≡ first + 256 * second ⌝ }
+{
+    first as u16 + 256 * (second as u16)
+}
+
 impl Request {
     pub const GET_STATUS: u8 = 0;
 
@@ -128,9 +136,9 @@ impl Request {
             kind: type_of(b),
             recipient: recipient_of(b),
             request: packet[1],
-            value: common::word(packet[2], packet[3]),
-            index: common::word(packet[4], packet[5]),
-            length: common::word(packet[6], packet[7]),
+            value: word(packet[2], packet[3]),
+            index: word(packet[4], packet[5]),
+            length: word(packet[6], packet[7]),
         })
     }
 
