@@ -1,7 +1,7 @@
 use Prim.Native.Nat.{_-_}
 use borrow.Author.Needs.{needs}
-use Rattle.notes.proofs.limit.counts.Statement.{statement}
-use Rattle.notes.proofs.limit.counts.Tie as tie
+use Rattle.edges.proofs.counts.Statement.{statement}
+use Rattle.edges.proofs.counts.Tie as tie
 
 abbrev Inv-loop : tie.InvT-loop
 Inv-loop name what r n i₀ i = Unit {0}
@@ -32,6 +32,5 @@ counts-spec =
     (λ c κs. search needs)
     (λ c. search needs)
     loop-again
-    (λ c κs. search needs)
     (λ c κs. search needs)
     (λ c. search needs))

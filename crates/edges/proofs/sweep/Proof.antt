@@ -1,7 +1,7 @@
 use Prim.Native.Nat.{_-_}
 use borrow.Author.Needs.{needs}
-use Rattle.notes.proofs.limit.sweep.Statement.{statement}
-use Rattle.notes.proofs.limit.sweep.Tie as tie
+use Rattle.edges.proofs.sweep.Statement.{statement}
+use Rattle.edges.proofs.sweep.Tie as tie
 
 abbrev Inv-loop : tie.InvT-loop
 Inv-loop name what t₀ n₀ t n = Unit {0}
@@ -30,7 +30,6 @@ sweep-spec =
     (λ c. search needs)
     (λ c. search needs)
     loop-again
-    (λ c κs. search needs)
     (λ c κs. search needs)
     (λ c κs. search needs)
     (λ c κs. search needs)

@@ -1,7 +1,7 @@
 use Prim.Native.Nat.{_-_}
 use borrow.Author.Needs.{needs}
-use Rattle.notes.proofs.say.hex.Statement.{statement}
-use Rattle.notes.proofs.say.hex.Tie as tie
+use Rattle.runs.proofs.say.hex.Statement.{statement}
+use Rattle.runs.proofs.say.hex.Tie as tie
 
 abbrev Inv-loop : tie.InvT-loop
 Inv-loop buf n i₀ i = Unit {0}

@@ -1,6 +1,5 @@
-// Runs field notes 1 to 6 of document 01, then a record at every limit, and prints what the code answers.
+// Runs field notes 1 to 6 of document 01 and prints what the code answers.
 // What it prints is held to the file stdout, which was written from document 01.
-mod limit;
 mod say;
 
 use control::EndpointAddress;
@@ -17,16 +16,14 @@ use record::Record;
 // The device of notes 4 to 6: "Pan" for strings 1 and 2 of language 0409h, one interface with one endpoint.
 fn pan() -> Record {
     let text = [0x50u16, 0x61, 0x6e];
-    Record::new(basics())
-        .with_interface(interface())
-        .with_endpoint(endpoint())
-        .with_language(0x0409)
-        .with_string(Name::Manufacturer, &text)
+    let r = plain().with_language(0x0409);
+    r.with_string(Name::Manufacturer, &text)
         .with_string(Name::Product, &text)
 }
 
-fn basics() -> Basics {
-    Basics {
+// The same with no string.
+fn plain() -> Record {
+    let basics = Basics {
         packet: 8,
         class: 0,
         subclass: 0,
@@ -38,25 +35,22 @@ fn basics() -> Basics {
         powered: false,
         wakeup: false,
         quirk: false,
-    }
-}
-
-fn interface() -> Interface {
-    Interface {
+    };
+    let interface = Interface {
         class: 0xff,
         subclass: 0,
         protocol: 0,
-    }
-}
-
-fn endpoint() -> Endpoint {
-    Endpoint {
+    };
+    let endpoint = Endpoint {
         address: EndpointAddress(0x81),
         kind: Kind::Bulk,
         size: 64,
         interval: 0,
         interface: 0,
-    }
+    };
+    Record::new(basics)
+        .with_interface(interface)
+        .with_endpoint(endpoint)
 }
 
 // Notes 1 to 3: what a SETUP packet says.
@@ -96,15 +90,26 @@ fn string(note: u64, r: Record, number: u8) {
     bytes(note, answer, &buf);
 }
 
-fn descriptors(r: Record) {
+fn device(r: Record) {
     let mut buf = [0u8; 128];
     let plan = r.plan;
-    let device = descriptor::device(plan, &r.ids, &r.lens, &mut buf, 0);
-    bytes(4, device, &buf);
-    let configuration = configuration::write(plan, &r.ids, &r.lens, &mut buf, 0);
-    bytes(5, configuration, &buf);
+    let answer = descriptor::device(plan, &r.ids, &r.lens, &mut buf, 0);
+    bytes(4, answer, &buf);
+}
+
+fn configure(r: Record) {
+    let mut buf = [0u8; 128];
+    let plan = r.plan;
+    let answer = configuration::write(plan, &r.ids, &r.lens, &mut buf, 0);
+    bytes(5, answer, &buf);
+}
+
+// Strings 1 and 0, then two that are not there.
+fn texts(r: Record) {
     string(6, r, 1);
     string(6, r, 0);
+    string(0, r, 3);
+    string(0, r, 4);
 }
 
 // The language list at a place of ten bytes: what it says, and what the ten bytes are then.
@@ -124,11 +129,10 @@ fn language_list(r: Record, at: usize) {
 fn main() {
     setups();
     let r = pan();
-    descriptors(r);
-    string(0, r, 3);
-    string(0, r, 4);
+    device(r);
+    configure(r);
+    texts(r);
     language_list(r, 0);
     language_list(r, 6);
     language_list(r, 7);
-    limit::all();
 }

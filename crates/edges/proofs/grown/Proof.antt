@@ -1,7 +1,7 @@
 use Prim.Native.Nat.{_-_}
 use borrow.Author.Needs.{needs}
-use Rattle.notes.proofs.limit.grown.Statement.{statement}
-use Rattle.notes.proofs.limit.grown.Tie as tie
+use Rattle.edges.proofs.grown.Statement.{statement}
+use Rattle.edges.proofs.grown.Tie as tie
 
 abbrev Inv-loop : tie.InvT-loop
 Inv-loop what n next₀ i₀ next i = Unit {0}

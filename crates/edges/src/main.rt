@@ -1,9 +1,11 @@
-// A record at every limit: one thing is changed, and the refusal is told.
-use super::say;
+// A record at every limit: one thing is changed, and the number of the refusal is told.
+// What it prints is held to the file stdout, which was written from document 01.
 use control::EndpointAddress;
+use libc::STDOUT_FILENO;
 use record::Basics;
 use record::Endpoint;
 use record::Interface;
+use record::Kind;
 use record::Name;
 use record::Record;
 
@@ -30,6 +32,51 @@ pub struct Tally {
     pub last: u64,
 }
 
+fn basics() -> Basics {
+    Basics {
+        packet: 8,
+        class: 0,
+        subclass: 0,
+        protocol: 0,
+        vendor: 0x1234,
+        product: 0x0138,
+        release: 0x0100,
+        power: 50,
+        powered: false,
+        wakeup: false,
+        quirk: false,
+    }
+}
+
+fn interface() -> Interface {
+    Interface {
+        class: 0xff,
+        subclass: 0,
+        protocol: 0,
+    }
+}
+
+fn endpoint() -> Endpoint {
+    Endpoint {
+        address: EndpointAddress(0x81),
+        kind: Kind::Bulk,
+        size: 64,
+        interval: 0,
+        interface: 0,
+    }
+}
+
+// A number and a space.
+fn tell(n: u64) {
+    io::print_decimal(STDOUT_FILENO, n);
+    io::write_all(STDOUT_FILENO, b" ");
+}
+
+fn end(name: &[u8]) {
+    io::write_all(STDOUT_FILENO, name);
+    io::write_all(STDOUT_FILENO, b"\n");
+}
+
 fn number(r: Record) -> u8 {
     let plan = r.plan;
     limits::broken(plan, &r.ids, &r.lens).number()
@@ -54,19 +101,19 @@ impl Tally {
 
 fn with_basics(b: Basics) -> Record {
     Record::new(b)
-        .with_interface(super::interface())
-        .with_endpoint(super::endpoint())
+        .with_interface(interface())
+        .with_endpoint(endpoint())
 }
 
 fn with_endpoint(e: Endpoint) -> Record {
-    Record::new(super::basics())
-        .with_interface(super::interface())
+    Record::new(basics())
+        .with_interface(interface())
         .with_endpoint(e)
 }
 
 fn swept(what: Change, n: u8) -> Record {
-    let mut b = super::basics();
-    let mut e = super::endpoint();
+    let mut b = basics();
+    let mut e = endpoint();
     match what {
         Change::Packet => {
             b.packet = n;
@@ -104,18 +151,17 @@ fn sweep(name: &[u8], what: Change) {
         t = t.with(n as u64, number(swept(what, (n % 256) as u8)) == 0);
         n += 1;
     }
-    say::number(t.count);
-    say::next(t.first);
-    say::next(t.last);
-    say::word(name);
-    say::line();
+    tell(t.count);
+    tell(t.first);
+    tell(t.last);
+    end(name);
 }
 
 fn grow(what: Thing, r: Record, n: u8) -> Record {
     match what {
-        Thing::Interfaces => r.with_interface(super::interface()),
+        Thing::Interfaces => r.with_interface(interface()),
         Thing::Endpoints => {
-            let mut e = super::endpoint();
+            let mut e = endpoint();
             let a = EndpointAddress(n % 15 + 1);
             e.address = a;
             r.with_endpoint(e)
@@ -137,34 +183,53 @@ fn grown(what: Thing, r: Record, n: u8) -> Record {
 
 // The refusals of 0 to n of a thing.
 fn counts(name: &[u8], what: Thing, r: Record, n: u8) {
-    say::number(number(r) as u64);
+    tell(number(r) as u64);
     let mut i: u8 = 0;
     while i < n {
         i += 1;
-        say::next(number(grown(what, r, i)) as u64);
+        tell(number(grown(what, r, i)) as u64);
     }
-    say::word(name);
-    say::line();
+    end(name);
 }
 
 // One answer.
 fn told(name: &[u8], r: Record) {
-    say::number(number(r) as u64);
-    say::word(name);
-    say::line();
+    tell(number(r) as u64);
+    end(name);
+}
+
+fn bare() -> Record {
+    Record::new(basics())
+}
+
+fn one() -> Record {
+    bare().with_interface(interface())
+}
+
+// A string of 31 units, and one of 32.
+fn lengths() {
+    let r = one().with_language(0x0409);
+    told(b"31 units", r.with_string(Name::Serial, &[0x20u16; 31]));
+    told(b"32 units", r.with_string(Name::Serial, &[0x20u16; 32]));
+}
+
+fn homeless() {
+    told(
+        b"no language of the string",
+        one().with_string(Name::Serial, &[0x20u16]),
+    );
 }
 
 fn twice() {
-    let e = super::endpoint();
-    told(
-        b"no language of the string",
-        Record::new(super::basics())
-            .with_interface(super::interface())
-            .with_string(Name::Serial, &[0x20u16]),
-    );
-    told(b"an address twice", super::pan().with_endpoint(e));
-    told(b"a language twice", super::pan().with_language(0x0409));
-    let mut b = super::basics();
+    let r = one().with_endpoint(endpoint());
+    told(b"an address twice", r.with_endpoint(endpoint()));
+    let l = one().with_language(0x0409);
+    told(b"a language twice", l.with_language(0x0409));
+}
+
+// A record that breaks all three rules.
+fn lowest() {
+    let mut b = basics();
     b.packet = 7;
     b.power = 251;
     told(
@@ -173,24 +238,21 @@ fn twice() {
     );
 }
 
-pub(crate) fn all() {
+fn sweeps() {
     sweep(b"packet sizes", Change::Packet);
     sweep(b"powers", Change::Power);
     sweep(b"endpoint addresses", Change::Address);
     sweep(b"endpoint sizes", Change::Size);
     sweep(b"interfaces of an endpoint", Change::Owner);
-    let bare = Record::new(super::basics());
-    let one = bare.with_interface(super::interface());
-    counts(b"interfaces", Thing::Interfaces, bare, 5);
-    counts(b"endpoints", Thing::Endpoints, one, 9);
-    counts(b"languages", Thing::Languages, one, 5);
-    told(
-        b"31 units",
-        super::pan().with_string(Name::Serial, &[0x20u16; 31]),
-    );
-    told(
-        b"32 units",
-        super::pan().with_string(Name::Serial, &[0x20u16; 32]),
-    );
+}
+
+fn main() {
+    sweeps();
+    counts(b"interfaces", Thing::Interfaces, bare(), 5);
+    counts(b"endpoints", Thing::Endpoints, one(), 9);
+    counts(b"languages", Thing::Languages, one(), 5);
+    lengths();
+    homeless();
     twice();
+    lowest();
 }
