@@ -2,21 +2,22 @@
 use Prim.Native.Nat.{ℕ, _+_, _*_, _%_, _≤_, _<_}
 use mathlib.Core.Bool.{Bool, true, false, _&&_}
 use mathlib.Core.Path.{_≡_, refl, ap, _∙_}
-use mathlib.Core.List.{List, [], _∷_, map}
+use mathlib.Core.List.{List, [], _∷_, _++_, map}
 use native.Mathlib.Omega.{arith}
 use borrow.Author.Tests.{eqb-true, eqb-false, ltb-true}
 use lib.Dec.{eqb, ltb}
-use lib.ListN.{length, take, length-append}
+use lib.ListN.{length, take, replicate, length-append}
 use lib.Seq.{length-take-le}
-use Rattle.common.specs.Lists.{between, every, noneTwice}
+use Rattle.common.specs.Lists.{between, every, member, noneTwice}
 use Rattle.common.proofs.Laws.{and-left, and-right}
 use Rattle.record.specs.Sizes.{interfaceRoom, endpointRoom}
 use Rattle.record.specs.declared.Endpoint.{Endpoint}
 use Rattle.record.specs.declared.Interface.{Interface}
 use Rattle.record.specs.declared.Plan.{Plan}
+use Rattle.record.specs.declared.Kind.the-variants.{Bulk, Interrupt}
 use Rattle.limits.specs.Limits.{addressOf, endpointFine, listFine, layoutFine}
 use Rattle.limits.proofs.Good.{layout-facts}
-use Rattle.configuration.specs.Configuration.{endpointBytes, owned, joined, interfaceSet, interfaceSets, headBytes, bodyBytes, configurationBytes}
+use Rattle.configuration.specs.Configuration.{endpointBytes, interfaceBytes, owned, joined, interfaceSet, interfaceSets, headBytes, bodyBytes, configurationBytes}
 use Rattle.configuration.proofs.Laws.{owned-here, owned-other, owned-nil, owned-count, length-set}
 
 length-joined : (es : List Endpoint) → length (joined es) ≡ 7 * length es
@@ -111,3 +112,28 @@ module _ (p : Plan) (s : Shaped p) (fine : layoutFine p ≡ true) where
   -- .. so that the longest is 9 + 36 + 56 = 101 bytes
   pub longest-configuration : length (configurationBytes p) ≤ 101
   longest-configuration = let f = layout-facts p fine in omega (arith, length-configuration, f .interfaces, f .endpoints)
+
+-- .. and there is one: four interfaces with two endpoints each
+abbrev pub pair : ℕ → List Endpoint
+pair i =
+    record { address = record { 0 = 1 + i }; kind = Bulk; size = 64; interval = 0; interface = i }
+    ∷ record { address = record { 0 = 129 + i }; kind = Interrupt; size = 8; interval = 1; interface = i }
+    ∷ []
+
+unfoldable pub full : Plan
+full =
+    record {
+      basics =
+          record { packet = 64; class = 0; subclass = 0; protocol = 0; vendor = 1; product = 1; release = 1; power = 250; powered = true; wakeup = true; quirk = false };
+      interfaces = record { count = interfaceRoom; list = replicate interfaceRoom (record { class = 255; subclass = 0; protocol = 0 }) };
+      endpoints = record { count = endpointRoom; list = pair 0 ++ pair 1 ++ pair 2 ++ pair 3 };
+      languages = 0;
+    }
+
+pub full-fine : layoutFine full ≡ true
+unfolding full layoutFine listFine endpointFine every noneTwice member
+full-fine = refl
+
+pub full-length : length (configurationBytes full) ≡ 101
+unfolding full configurationBytes headBytes bodyBytes interfaceSets interfaceSet interfaceBytes owned joined endpointBytes
+full-length = refl

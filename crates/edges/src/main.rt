@@ -99,44 +99,19 @@ impl Tally {
     }
 }
 
-fn with_basics(b: Basics) -> Record {
-    Record::new(b)
-        .with_interface(interface())
-        .with_endpoint(endpoint())
-}
-
-fn with_endpoint(e: Endpoint) -> Record {
-    Record::new(basics())
-        .with_interface(interface())
-        .with_endpoint(e)
-}
-
+// The record of one interface and one endpoint, with one thing changed.
 fn swept(what: Change, n: u8) -> Record {
     let mut b = basics();
     let mut e = endpoint();
+    let a = EndpointAddress(n);
     match what {
-        Change::Packet => {
-            b.packet = n;
-            with_basics(b)
-        }
-        Change::Power => {
-            b.power = n;
-            with_basics(b)
-        }
-        Change::Address => {
-            let a = EndpointAddress(n);
-            e.address = a;
-            with_endpoint(e)
-        }
-        Change::Size => {
-            e.size = n;
-            with_endpoint(e)
-        }
-        Change::Owner => {
-            e.interface = n;
-            with_endpoint(e)
-        }
+        Change::Packet => b.packet = n,
+        Change::Power => b.power = n,
+        Change::Address => e.address = a,
+        Change::Size => e.size = n,
+        Change::Owner => e.interface = n,
     }
+    Record::new(b).with_interface(interface()).with_endpoint(e)
 }
 
 // Every number of a byte: how many are taken, and the first and the last.
