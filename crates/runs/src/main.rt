@@ -83,21 +83,24 @@ fn setups() {
     setup(3, &[0x80u8, 0x06, 0x00, 0x01, 0x00, 0x00, 0x40, 0x00, 0x00]);
 }
 
-fn string(note: u64, r: Record, number: u8) {
+fn string(note: u64, number: u8) {
+    let r = pan();
     let mut buf = [0u8; 128];
     let plan = r.plan;
     let answer = strings::write(plan, &r.ids, &r.lens, &r.units, number, 0x0409, &mut buf, 0);
     bytes(note, answer, &buf);
 }
 
-fn device(r: Record) {
+fn device() {
+    let r = pan();
     let mut buf = [0u8; 128];
     let plan = r.plan;
     let answer = descriptor::device(plan, &r.ids, &r.lens, &mut buf, 0);
     bytes(4, answer, &buf);
 }
 
-fn configure(r: Record) {
+fn configure() {
+    let r = pan();
     let mut buf = [0u8; 128];
     let plan = r.plan;
     let answer = configuration::write(plan, &r.ids, &r.lens, &mut buf, 0);
@@ -105,15 +108,16 @@ fn configure(r: Record) {
 }
 
 // Strings 1 and 0, then two that are not there.
-fn texts(r: Record) {
-    string(6, r, 1);
-    string(6, r, 0);
-    string(0, r, 3);
-    string(0, r, 4);
+fn texts() {
+    string(6, 1);
+    string(6, 0);
+    string(0, 3);
+    string(0, 4);
 }
 
 // The language list at a place of ten bytes: what it says, and what the ten bytes are then.
-fn language_list(r: Record, at: usize) {
+fn language_list(at: usize) {
+    let r = pan();
     let mut buf = [0xeeu8; 10];
     let plan = r.plan;
     let answer = strings::write(plan, &r.ids, &r.lens, &r.units, 0, 0, &mut buf, at);
@@ -128,11 +132,10 @@ fn language_list(r: Record, at: usize) {
 
 fn main() {
     setups();
-    let r = pan();
-    device(r);
-    configure(r);
-    texts(r);
-    language_list(r, 0);
-    language_list(r, 6);
-    language_list(r, 7);
+    device();
+    configure();
+    texts();
+    language_list(0);
+    language_list(6);
+    language_list(7);
 }

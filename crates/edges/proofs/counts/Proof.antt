@@ -4,10 +4,10 @@ use Rattle.edges.proofs.counts.Statement.{statement}
 use Rattle.edges.proofs.counts.Tie as tie
 
 abbrev Inv-loop : tie.InvT-loop
-Inv-loop name what r n i₀ i = Unit {0}
+Inv-loop name what most i₀ i = Unit {0}
 
 abbrev μ-loop : tie.MeasureT-loop
-μ-loop name what r n i₀ i = n - i
+μ-loop name what most i₀ i = most - i
 
 loop-holds : tie.Need-loop-holds Inv-loop μ-loop
 loop-holds c = tt
@@ -21,15 +21,12 @@ counts-spec =
     (tie.spec
     Inv-loop
     μ-loop
-    (λ c κs. search needs)
-    (λ c. search needs)
-    (λ c κs. search needs)
     loop-holds
-    (λ c. search needs)
     (λ c κs. search needs)
     (λ c κs. search needs)
     (λ c. search needs)
     (λ c κs. search needs)
+    (λ c. search needs)
     (λ c. search needs)
     loop-again
     (λ c κs. search needs)
