@@ -23,7 +23,7 @@ pub enum Written {
 }
 
 // A whole answer, or refusal 12 and nothing.
-pub fn put_whole(src: &[u8], buf: &mut [u8], at: usize) -> Written
+fn put_whole(src: &[u8], buf: &mut [u8], at: usize) -> Written
     ensures { λ r. ⌜ Put r (now (buf .exit)) (some (now (src .entry))) (now (buf .entry)) at ⌝ }
 {
     let n = src.len();

@@ -64,17 +64,6 @@ fn setup(note: u64, packet: &[u8]) {
     say::line();
 }
 
-// Notes 4 to 6: the bytes of a descriptor.
-fn bytes(note: u64, answer: Written, buf: &[u8]) {
-    say::number(note);
-    match answer {
-        Written::Bytes(n) => say::hex(buf, n),
-        Written::Missing => say::word(b"missing"),
-        Written::Refused(why) => say::refusal(why),
-    }
-    say::line();
-}
-
 fn setups() {
     setup(1, &[0x80u8, 0x06, 0x00, 0x01, 0x00, 0x00, 0x40, 0x00]);
     setup(2, &[0x64u8, 0x00, 0x00, 0x00, 0x00, 0x00, 0x00, 0x00]);
@@ -83,44 +72,40 @@ fn setups() {
     setup(3, &[0x80u8, 0x06, 0x00, 0x01, 0x00, 0x00, 0x40, 0x00, 0x00]);
 }
 
-fn string(note: u64, number: u8) {
-    let r = pan();
-    let mut buf = [0u8; 128];
-    let plan = r.plan;
-    let answer = strings::write(plan, &r.ids, &r.lens, &r.units, number, 0x0409, &mut buf, 0);
-    bytes(note, answer, &buf);
+// Which descriptor is asked for.
+enum Asked {
+    Device,
+    Configuration,
+    Text(u8),
 }
 
-fn device() {
+fn ask(what: Asked, buf: &mut [u8], at: usize) -> Written {
     let r = pan();
-    let mut buf = [0u8; 128];
     let plan = r.plan;
-    let answer = descriptor::device(plan, &r.ids, &r.lens, &mut buf, 0);
-    bytes(4, answer, &buf);
+    match what {
+        Asked::Device => descriptor::device(plan, &r.ids, &r.lens, buf, at),
+        Asked::Configuration => configuration::write(plan, &r.ids, &r.lens, buf, at),
+        Asked::Text(n) => strings::write(plan, &r.ids, &r.lens, &r.units, n, 0x0409, buf, at),
+    }
 }
 
-fn configure() {
-    let r = pan();
+// Notes 4 to 6: the bytes of a descriptor.
+fn bytes(note: u64, what: Asked) {
     let mut buf = [0u8; 128];
-    let plan = r.plan;
-    let answer = configuration::write(plan, &r.ids, &r.lens, &mut buf, 0);
-    bytes(5, answer, &buf);
-}
-
-// Strings 1 and 0, then two that are not there.
-fn texts() {
-    string(6, 1);
-    string(6, 0);
-    string(0, 3);
-    string(0, 4);
+    say::number(note);
+    let answer = ask(what, &mut buf, 0);
+    match answer {
+        Written::Bytes(n) => say::hex(&buf, n),
+        Written::Missing => say::word(b"missing"),
+        Written::Refused(why) => say::refusal(why),
+    }
+    say::line();
 }
 
 // The language list at a place of ten bytes: what it says, and what the ten bytes are then.
 fn language_list(at: usize) {
-    let r = pan();
     let mut buf = [0xeeu8; 10];
-    let plan = r.plan;
-    let answer = strings::write(plan, &r.ids, &r.lens, &r.units, 0, 0, &mut buf, at);
+    let answer = ask(Asked::Text(0), &mut buf, at);
     match answer {
         Written::Bytes(n) => say::number(n as u64),
         Written::Missing => say::word(b"missing"),
@@ -132,9 +117,12 @@ fn language_list(at: usize) {
 
 fn main() {
     setups();
-    device();
-    configure();
-    texts();
+    bytes(4, Asked::Device);
+    bytes(5, Asked::Configuration);
+    bytes(6, Asked::Text(1));
+    bytes(6, Asked::Text(0));
+    bytes(0, Asked::Text(3));
+    bytes(0, Asked::Text(4));
     language_list(0);
     language_list(6);
     language_list(7);
