@@ -9,9 +9,9 @@ use lib.Dec.{eqb}
 use lib.ListN.{length, getD, take, drop, length-append}
 use Rattle.common.specs.Bytes.{placed}
 use Rattle.common.proofs.Laws.{cond-elim, rest-cons, rest-nil, placed-more, placed-nil}
-use Rattle.record.specs.declared.Plan.{Plan}
-use Rattle.record.specs.declared.Endpoint.{Endpoint}
-use Rattle.record.specs.declared.Interface.{Interface}
+use Rattle.plan.specs.declared.Plan.{Plan}
+use Rattle.plan.specs.declared.Endpoint.{Endpoint}
+use Rattle.plan.specs.declared.Interface.{Interface}
 use Rattle.configuration.specs.Configuration.{endpointBytes, owned, joined, interfaceBytes, interfaceSet, interfaceSets, headBytes, bodyBytes, configurationBytes}
 use Rattle.configuration.specs.Adding.{Added}
 

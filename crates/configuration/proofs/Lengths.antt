@@ -10,11 +10,11 @@ use lib.ListN.{length, take, replicate, length-append}
 use lib.Seq.{length-take-le}
 use Rattle.common.specs.Lists.{between, every, member, noneTwice}
 use Rattle.common.proofs.Laws.{and-left, and-right}
-use Rattle.record.specs.Sizes.{interfaceRoom, endpointRoom}
-use Rattle.record.specs.declared.Endpoint.{Endpoint}
-use Rattle.record.specs.declared.Interface.{Interface}
-use Rattle.record.specs.declared.Plan.{Plan}
-use Rattle.record.specs.declared.Kind.the-variants.{Bulk, Interrupt}
+use Rattle.plan.specs.Sizes.{interfaceRoom, endpointRoom}
+use Rattle.plan.specs.declared.Endpoint.{Endpoint}
+use Rattle.plan.specs.declared.Interface.{Interface}
+use Rattle.plan.specs.declared.Plan.{Plan}
+use Rattle.plan.specs.declared.Kind.the-variants.{Bulk, Interrupt}
 use Rattle.limits.specs.Limits.{addressOf, endpointFine, listFine, layoutFine}
 use Rattle.limits.proofs.Good.{layout-facts}
 use Rattle.configuration.specs.Configuration.{endpointBytes, interfaceBytes, owned, joined, interfaceSet, interfaceSets, headBytes, bodyBytes, configurationBytes}

@@ -5,11 +5,11 @@ use mathlib.Core.Bool.{Bool, cond}
 use mathlib.Core.List.{List, [], _∷_, _++_}
 use lib.Dec.{eqb}
 use lib.ListN.{length, take}
-use Rattle.record.specs.declared.Interface.{Interface}
-use Rattle.record.specs.declared.Endpoint.{Endpoint}
-use Rattle.record.specs.declared.Kind.{Kind}
-use Rattle.record.specs.declared.Kind.the-variants.{Bulk, Interrupt}
-use Rattle.record.specs.declared.Plan.{Plan}
+use Rattle.plan.specs.declared.Interface.{Interface}
+use Rattle.plan.specs.declared.Endpoint.{Endpoint}
+use Rattle.plan.specs.declared.Kind.{Kind}
+use Rattle.plan.specs.declared.Kind.the-variants.{Bulk, Interrupt}
+use Rattle.plan.specs.declared.Plan.{Plan}
 use Rattle.limits.specs.Limits.{addressOf}
 
 -- table 9-13, bmAttributes bits 1 to 0

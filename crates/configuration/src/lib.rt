@@ -1,13 +1,13 @@
 // The configuration descriptor with its interfaces and their endpoints, written into a lent buffer at a position.
 use common::Refusal;
 use descriptor::Written;
-use record::ENDPOINTS;
-use record::Endpoint;
-use record::INTERFACES;
-use record::Interface;
-use record::Kind;
+use plan::ENDPOINTS;
+use plan::Endpoint;
+use plan::INTERFACES;
+use plan::Interface;
+use plan::Kind;
+use plan::Plan;
 use record::LANGUAGES;
-use record::Plan;
 use record::STRINGS;
 ghost use mathlib.Core.Path.{_≡_};
 ghost use mathlib.Core.Bool.{true};
@@ -16,7 +16,7 @@ ghost use mathlib.Core.List.{[], _∷_};
 ghost use Prim.Native.Nat.{_+_, _≤_};
 ghost use lib.ListN.{length, take};
 ghost use Rattle.common.specs.Bytes.{placed};
-ghost use Rattle.record.specs.Sizes.{interfaceRoom, endpointRoom};
+ghost use Rattle.plan.specs.Sizes.{interfaceRoom, endpointRoom};
 ghost use Rattle.limits.specs.Limits.{layoutFine, lowest};
 ghost use Rattle.descriptor.specs.Writing.{Put, Wrote};
 ghost use Rattle.configuration.specs.Configuration.{bit, transferOf, endpointBytes, owned, joined, interfaceSet, interfaceSets, headBytes, configurationBytes};

@@ -5,7 +5,7 @@ use mathlib.Core.List.{List, [], _∷_}
 use lib.Dec.{eqb}
 use lib.ListN.{getD}
 use Rattle.record.specs.Filling.{slotOf}
-use Rattle.record.specs.declared.Plan.{Plan}
+use Rattle.plan.specs.declared.Plan.{Plan}
 
 -- whether any of the first n languages has the string of a name
 unfoldable pub said : List ℕ → ℕ → ℕ → Bool

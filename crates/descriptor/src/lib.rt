@@ -2,9 +2,9 @@
 // A record that breaks a limit is refused with 1, 2 or 3, and an answer that the room left does not take whole with 12:
 // then no byte is written. The record is lent in its parts, as a device holds it: r.plan, &r.ids, &r.lens, &r.units.
 use common::Refusal;
+use plan::Plan;
 use record::LANGUAGES;
 use record::NAMES;
-use record::Plan;
 use record::STRINGS;
 ghost use mathlib.Core.Path.{_≡_};
 ghost use mathlib.Core.Option.{some};

@@ -2,12 +2,15 @@
 // What it prints is held to the file stdout, which was written from document 01.
 use control::EndpointAddress;
 use libc::STDOUT_FILENO;
-use record::Basics;
-use record::Endpoint;
-use record::Interface;
-use record::Kind;
+use plan::Basics;
+use plan::Endpoint;
+use plan::Interface;
+use plan::Kind;
+use plan::Plan;
+use record::LANGUAGES;
 use record::Name;
 use record::Record;
+use record::STRINGS;
 
 // What a sweep changes, to each number of a byte.
 pub enum Change {
@@ -18,11 +21,10 @@ pub enum Change {
     Owner,
 }
 
-// What there is 0 and more of.
+// What a plan has 0 and more of.
 pub enum Thing {
     Interfaces,
     Endpoints,
-    Languages,
 }
 
 // How many of the tries were not refused, and the first and the last of them.
@@ -77,6 +79,10 @@ fn end(name: &[u8]) {
     io::write_all(STDOUT_FILENO, b"\n");
 }
 
+fn planned(plan: Plan) -> u8 {
+    limits::broken(plan, &[0u16; LANGUAGES], &[0u8; STRINGS]).number()
+}
+
 fn number(r: Record) -> u8 {
     let plan = r.plan;
     limits::broken(plan, &r.ids, &r.lens).number()
@@ -99,8 +105,8 @@ impl Tally {
     }
 }
 
-// The record of one interface and one endpoint, with one thing changed.
-fn swept(what: Change, n: u8) -> Record {
+// The plan of one interface and one endpoint, with one thing changed.
+fn swept(what: Change, n: u8) -> Plan {
     let mut b = basics();
     let mut e = endpoint();
     let a = EndpointAddress(n);
@@ -111,7 +117,7 @@ fn swept(what: Change, n: u8) -> Record {
         Change::Size => e.size = n,
         Change::Owner => e.interface = n,
     }
-    Record::new(b).with_interface(interface()).with_endpoint(e)
+    Plan::new(b).with_interface(interface()).with_endpoint(e)
 }
 
 // Every number of a byte: how many are taken, and the first and the last.
@@ -123,7 +129,7 @@ fn sweep(name: &[u8], what: Change) {
     };
     let mut n: u16 = 0;
     while n < 256 {
-        t = t.with(n as u64, number(swept(what, (n % 256) as u8)) == 0);
+        t = t.with(n as u64, planned(swept(what, (n % 256) as u8)) == 0);
         n += 1;
     }
     tell(t.count);
@@ -132,92 +138,91 @@ fn sweep(name: &[u8], what: Change) {
     end(name);
 }
 
-fn grow(what: Thing, r: Record, n: u8) -> Record {
+fn grow(what: Thing, p: Plan, n: u8) -> Plan {
     match what {
-        Thing::Interfaces => r.with_interface(interface()),
+        Thing::Interfaces => p.with_interface(interface()),
         Thing::Endpoints => {
             let mut e = endpoint();
             let a = EndpointAddress(n % 15 + 1);
             e.address = a;
-            r.with_endpoint(e)
+            p.with_endpoint(e)
         }
-        Thing::Languages => r.with_language(n as u16),
     }
 }
 
-// A record with n of a thing, and one interface where the thing is another.
-fn grown(what: Thing, n: u8) -> Record {
-    let mut next = begun(what);
-    let mut i: u8 = 0;
-    while i < n {
-        next = grow(what, next, i);
-        i += 1;
-    }
-    next
-}
-
-fn begun(what: Thing) -> Record {
-    match what {
-        Thing::Interfaces => bare(),
-        Thing::Endpoints => one(),
-        Thing::Languages => one(),
-    }
-}
-
-// The refusals of none of a thing, of one, and so on, so many in all.
-fn counts(name: &[u8], what: Thing, most: u8) {
+// The refusals of a plan as it is, with one thing more, and so on, so many in all.
+fn counts(name: &[u8], what: Thing, plan: Plan, most: u8) {
+    let mut p = plan;
     let mut i: u8 = 0;
     while i < most {
-        tell(number(grown(what, i)) as u64);
+        tell(planned(p) as u64);
+        p = grow(what, p, i);
+        i += 1;
+    }
+    end(name);
+}
+
+// The refusals of a record with no language, with one, and so on, so many in all.
+fn languages(name: &[u8], most: u16) {
+    let mut r = Record::new(one());
+    let mut i: u16 = 0;
+    while i < most {
+        tell(number(r) as u64);
+        r = r.with_language(i);
         i += 1;
     }
     end(name);
 }
 
 // One answer.
-fn told(name: &[u8], r: Record) {
-    tell(number(r) as u64);
+fn told(name: &[u8], number: u8) {
+    tell(number as u64);
     end(name);
 }
 
-fn bare() -> Record {
-    Record::new(basics())
+fn bare() -> Plan {
+    Plan::new(basics())
 }
 
-fn one() -> Record {
+fn one() -> Plan {
     bare().with_interface(interface())
 }
 
 // A string of 31 units, and one of 32.
 fn lengths() {
-    let r = one().with_language(0x0409);
-    told(b"31 units", r.with_string(Name::Serial, &[0x20u16; 31]));
-    told(b"32 units", r.with_string(Name::Serial, &[0x20u16; 32]));
+    let r = Record::new(one()).with_language(0x0409);
+    told(
+        b"31 units",
+        number(r.with_string(Name::Serial, &[0x20u16; 31])),
+    );
+    told(
+        b"32 units",
+        number(r.with_string(Name::Serial, &[0x20u16; 32])),
+    );
 }
 
-fn homeless() {
+fn homeless(name: &[u8], plan: Plan) {
     told(
-        b"no language of the string",
-        one().with_string(Name::Serial, &[0x20u16]),
+        name,
+        number(Record::new(plan).with_string(Name::Serial, &[0x20u16])),
     );
 }
 
 fn twice() {
-    let r = one().with_endpoint(endpoint());
-    told(b"an address twice", r.with_endpoint(endpoint()));
-    let l = one().with_language(0x0409);
-    told(b"a language twice", l.with_language(0x0409));
+    let p = one().with_endpoint(endpoint()).with_endpoint(endpoint());
+    told(b"an address twice", planned(p));
+    let r = Record::new(one())
+        .with_language(0x0409)
+        .with_language(0x0409);
+    told(b"a language twice", number(r));
 }
 
-// A record that breaks all three rules.
-fn lowest() {
+// A plan that breaks rules 1 and 2.
+fn worst() -> Plan {
     let mut b = basics();
     b.packet = 7;
     b.power = 251;
-    told(
-        b"all three rules, the lowest",
-        Record::new(b).with_string(Name::Serial, &[0x20u16]),
-    );
+    Plan::new(b)
 }
 
 fn sweeps() {
@@ -230,11 +235,11 @@ fn sweeps() {
 
 fn main() {
     sweeps();
-    counts(b"interfaces", Thing::Interfaces, 6);
-    counts(b"endpoints", Thing::Endpoints, 10);
-    counts(b"languages", Thing::Languages, 6);
+    counts(b"interfaces", Thing::Interfaces, bare(), 6);
+    counts(b"endpoints", Thing::Endpoints, one(), 10);
+    languages(b"languages", 6);
     lengths();
-    homeless();
+    homeless(b"no language of the string", one());
     twice();
-    lowest();
+    homeless(b"all three rules, the lowest", worst());
 }

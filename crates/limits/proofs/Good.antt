@@ -11,8 +11,9 @@ use Rattle.common.specs.Refusals.{numberOf, refusal}
 use Rattle.common.specs.declared.Refusal.{Refusal}
 use Rattle.common.specs.Lists.{between, every, noneTwice}
 use Rattle.common.proofs.Laws.{cond-elim, and-left, and-right}
-use Rattle.record.specs.Sizes.{interfaceRoom, endpointRoom, languageRoom, names}
-use Rattle.record.specs.declared.Plan.{Plan}
+use Rattle.plan.specs.Sizes.{interfaceRoom, endpointRoom}
+use Rattle.record.specs.Sizes.{languageRoom, names}
+use Rattle.plan.specs.declared.Plan.{Plan}
 use Rattle.limits.specs.Limits.{packetFine, listFine, layoutFine, lengthFine, languagesFine, lowest}
 
 three : (a b c : Bool) → _≡_ {A = ℕ} (cond a (cond b (cond c 0 3) 2) 1) 0 → (a ≡ true) × (b ≡ true) × (c ≡ true)

@@ -6,8 +6,8 @@ use mathlib.Core.List.{List, [], _∷_, map}
 use Rattle.common.specs.Lists.{every, member}
 use Rattle.common.proofs.Laws.{and-false}
 use Rattle.common.proofs.Lists.{every-bad, every-next, every-nil, twice-bad, twice-next, twice-nil}
-use Rattle.record.specs.declared.Endpoint.{Endpoint}
-use Rattle.record.specs.declared.Kind.the-variants.{Bulk}
+use Rattle.plan.specs.declared.Endpoint.{Endpoint}
+use Rattle.plan.specs.declared.Kind.the-variants.{Bulk}
 use Rattle.limits.specs.Limits.{addressOf, endpointFine, listFine}
 
 -- what an array holds past its end

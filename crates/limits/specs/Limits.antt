@@ -5,9 +5,10 @@ use mathlib.Core.List.{List, [], _∷_, map}
 use lib.Dec.{leb, ltb}
 use lib.ListN.{take}
 use Rattle.common.specs.Lists.{between, every, member, noneTwice}
-use Rattle.record.specs.Sizes.{interfaceRoom, endpointRoom, languageRoom, names, unitRoom}
-use Rattle.record.specs.declared.Plan.{Plan}
-use Rattle.record.specs.declared.Endpoint.{Endpoint}
+use Rattle.plan.specs.Sizes.{interfaceRoom, endpointRoom}
+use Rattle.record.specs.Sizes.{languageRoom, names, unitRoom}
+use Rattle.plan.specs.declared.Plan.{Plan}
+use Rattle.plan.specs.declared.Endpoint.{Endpoint}
 
 abbrev pub addressOf : Endpoint → ℕ
 addressOf e = e .address .0

@@ -1,11 +1,11 @@
 // Which of refusals 1, 2 and 3 a device record gets. Any record gets an answer, whatever its counts say.
 use common::Refusal;
-use record::ENDPOINTS;
-use record::Endpoint;
-use record::INTERFACES;
+use plan::ENDPOINTS;
+use plan::Endpoint;
+use plan::INTERFACES;
+use plan::Plan;
 use record::LANGUAGES;
 use record::NAMES;
-use record::Plan;
 use record::STRINGS;
 use record::UNITS;
 ghost use mathlib.Core.Path.{_≡_};
@@ -14,7 +14,7 @@ ghost use Prim.Native.Nat.{_*_, _≤_};
 ghost use lib.ListN.{length, take, drop};
 ghost use Rattle.common.specs.Refusals.{refusal};
 ghost use Rattle.common.specs.Lists.{every, member, noneTwice};
-ghost use Rattle.record.specs.Sizes.{endpointRoom};
+ghost use Rattle.plan.specs.Sizes.{endpointRoom};
 ghost use Rattle.limits.specs.Limits.{addressOf, packetFine, endpointFine, listFine, layoutFine, lengthFine, languagesFine, lowest};
 
 // Units of 2 mA: 500 mA is the most that a device may draw.

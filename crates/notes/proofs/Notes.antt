@@ -3,7 +3,8 @@ use mathlib.Core.Path.{refl}
 use Rattle.common.specs.Bytes.{placed}
 use Rattle.common.specs.Lists.{every, member, noneTwice}
 use Rattle.control.specs.Setup.{directionOf, typeOf, recipientOf, parsed}
-use Rattle.record.specs.Filling.{addInterface, addEndpoint, withLanguage, withText, withString}
+use Rattle.plan.specs.Planning.{addInterface, addEndpoint}
+use Rattle.record.specs.Filling.{withLanguage, withText, withString}
 use Rattle.limits.specs.Limits.{packetFine, endpointFine, listFine, layoutFine, lengthFine, languagesFine, lowest}
 use Rattle.descriptor.specs.Device.{said, stringNumber, deviceBytes}
 use Rattle.configuration.specs.Configuration.{endpointBytes, interfaceBytes, owned, joined, interfaceSet, interfaceSets, headBytes, bodyBytes, configurationBytes}

@@ -16,9 +16,10 @@ use Rattle.control.specs.declared.Request.{Request}
 use Rattle.control.specs.declared.Parsed.the-variants.{Good, Refused}
 use Rattle.control.specs.Setup.{parsed}
 use Rattle.record.specs.declared.Record.{Record}
-use Rattle.record.specs.declared.Kind.the-variants.{Bulk}
+use Rattle.plan.specs.declared.Kind.the-variants.{Bulk}
 use Rattle.record.specs.declared.Name.the-variants.{Manufacturer, Product}
-use Rattle.record.specs.Filling.{bare, withInterface, withEndpoint, withLanguage, withString}
+use Rattle.plan.specs.Planning.{bare, withInterface, withEndpoint}
+use Rattle.record.specs.Filling.{bare as recordOf, withLanguage, withString}
 use Rattle.limits.specs.Limits.{lowest}
 use Rattle.descriptor.specs.Device.{deviceBytes}
 use Rattle.configuration.specs.Configuration.{configurationBytes}
@@ -60,6 +61,7 @@ pan =
     withString Product (0x50 ∷ 0x61 ∷ 0x6e ∷ [])
     (withString Manufacturer (0x50 ∷ 0x61 ∷ 0x6e ∷ [])
     (withLanguage 0x0409
+    (recordOf
     (withEndpoint (record { address = record { 0 = 0x81 }; kind = Bulk; size = 64; interval = 0; interface = 0 })
     (withInterface (record { class = 0xff; subclass = 0; protocol = 0 })
     (bare
@@ -75,7 +77,7 @@ pan =
       powered = false;
       wakeup = false;
       quirk = false;
-    }))))))
+    })))))))
 
 abbrev pub notes : List Note
 notes =

@@ -1,60 +1,26 @@
--- What each way to fill a record makes of it. What has no place spoils a count or a length, which refusals 2 and 3 then name.
+-- What each way to fill a record makes of it. What has no place spoils a count or a length, which refusal 3 then names.
 use Prim.Native.Nat.{ℕ, _+_, _-_, _*_}
 use mathlib.Core.Bool.{cond, _||_}
 use mathlib.Core.List.{List}
 use lib.Dec.{ltb, eqb}
 use lib.ListN.{length, set, replicate}
 use Rattle.common.specs.Bytes.{placed}
-use Rattle.record.specs.declared.Basics.{Basics}
-use Rattle.record.specs.declared.Interface.{Interface}
-use Rattle.record.specs.declared.Interfaces.{Interfaces}
-use Rattle.record.specs.declared.Endpoint.{Endpoint}
-use Rattle.record.specs.declared.Endpoints.{Endpoints}
-use Rattle.record.specs.declared.Kind.the-variants.{Bulk}
-use Rattle.record.specs.declared.Plan.{Plan}
+use Rattle.plan.specs.declared.Plan.{Plan}
 use Rattle.record.specs.declared.Record.{Record}
 use Rattle.record.specs.declared.Name.{Name}
 use Rattle.record.specs.declared.Name.the-variants.{Manufacturer, Product, Serial}
-use Rattle.record.specs.Sizes.{interfaceRoom, endpointRoom, languageRoom, names, unitRoom, stringRoom, textRoom, spoilt}
-
--- the next place takes x, and is counted; beyond the last place the count is spoilt
-unfoldable pub addInterface : Interface → Interfaces → Interfaces
-addInterface x l = cond (ltb (l .count) interfaceRoom) (record { count = l .count + 1; list = set (l .list) (l .count) x }) (record { count = spoilt; list = l .list })
-
-unfoldable pub addEndpoint : Endpoint → Endpoints → Endpoints
-addEndpoint x l = cond (ltb (l .count) endpointRoom) (record { count = l .count + 1; list = set (l .list) (l .count) x }) (record { count = spoilt; list = l .list })
-
--- a record with the basics alone
-abbrev pub bare : Basics → Record
-bare b =
-    record {
-      plan =
-          record {
-            basics = b;
-            interfaces = record { count = 0; list = replicate interfaceRoom (record { class = 0; subclass = 0; protocol = 0 }) };
-            endpoints = record { count = 0; list = replicate endpointRoom (record { address = record { 0 = 0 }; kind = Bulk; size = 0; interval = 0; interface = 0 }) };
-            languages = 0;
-          };
-      ids = replicate languageRoom 0;
-      lens = replicate stringRoom 0;
-      units = replicate textRoom 0;
-    }
-
-abbrev pub withPlan : Plan → Record → Record
-withPlan p r = record { plan = p; ids = r .ids; lens = r .lens; units = r .units }
+use Rattle.plan.specs.Sizes.{spoilt}
+use Rattle.record.specs.Sizes.{languageRoom, names, unitRoom, stringRoom, textRoom}
 
 abbrev pub withLanguages : ℕ → Plan → Plan
 withLanguages n p = record { basics = p .basics; interfaces = p .interfaces; endpoints = p .endpoints; languages = n }
 
-abbrev pub withInterface : Interface → Record → Record
-withInterface x r =
-    let p = r .plan in
-    withPlan (record { basics = p .basics; interfaces = addInterface x (p .interfaces); endpoints = p .endpoints; languages = p .languages }) r
+-- a record with the plan alone
+abbrev pub bare : Plan → Record
+bare p = record { plan = withLanguages 0 p; ids = replicate languageRoom 0; lens = replicate stringRoom 0; units = replicate textRoom 0 }
 
-abbrev pub withEndpoint : Endpoint → Record → Record
-withEndpoint x r =
-    let p = r .plan in
-    withPlan (record { basics = p .basics; interfaces = p .interfaces; endpoints = addEndpoint x (p .endpoints); languages = p .languages }) r
+abbrev pub withPlan : Plan → Record → Record
+withPlan p r = record { plan = p; ids = r .ids; lens = r .lens; units = r .units }
 
 -- a language is added with no string
 unfoldable pub withLanguage : ℕ → Record → Record

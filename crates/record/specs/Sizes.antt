@@ -1,12 +1,6 @@
 -- Document 01, "What goes into the mast": how much a record holds. Each size is named here once.
 use Prim.Native.Nat.{ℕ, _*_}
 
-abbrev pub interfaceRoom : ℕ
-interfaceRoom = 4
-
-abbrev pub endpointRoom : ℕ
-endpointRoom = 8
-
 abbrev pub languageRoom : ℕ
 languageRoom = 4
 
@@ -24,7 +18,3 @@ stringRoom = languageRoom * names
 
 abbrev pub textRoom : ℕ
 textRoom = stringRoom * unitRoom
-
--- a count or a length that no good record has
-abbrev pub spoilt : ℕ
-spoilt = 255

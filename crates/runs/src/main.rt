@@ -6,23 +6,24 @@ use control::EndpointAddress;
 use control::Parsed;
 use control::Request;
 use descriptor::Written;
-use record::Basics;
-use record::Endpoint;
-use record::Interface;
-use record::Kind;
+use plan::Basics;
+use plan::Endpoint;
+use plan::Interface;
+use plan::Kind;
+use plan::Plan;
 use record::Name;
 use record::Record;
 
 // The device of notes 4 to 6: "Pan" for strings 1 and 2 of language 0409h, one interface with one endpoint.
 fn pan() -> Record {
     let text = [0x50u16, 0x61, 0x6e];
-    let r = plain().with_language(0x0409);
+    let r = Record::new(plain()).with_language(0x0409);
     r.with_string(Name::Manufacturer, &text)
         .with_string(Name::Product, &text)
 }
 
-// The same with no string.
-fn plain() -> Record {
+// Its plan.
+fn plain() -> Plan {
     let basics = Basics {
         packet: 8,
         class: 0,
@@ -48,7 +49,7 @@ fn plain() -> Record {
         interval: 0,
         interface: 0,
     };
-    Record::new(basics)
+    Plan::new(basics)
         .with_interface(interface)
         .with_endpoint(endpoint)
 }

@@ -1,9 +1,9 @@
 // The language list and the strings, written into a lent buffer at a position.
 use common::Refusal;
 use descriptor::Written;
+use plan::Plan;
 use record::LANGUAGES;
 use record::NAMES;
-use record::Plan;
 use record::STRINGS;
 use record::TEXT;
 use record::UNITS;

@@ -4,10 +4,10 @@ use Rattle.edges.proofs.counts.Statement.{statement}
 use Rattle.edges.proofs.counts.Tie as tie
 
 abbrev Inv-loop : tie.InvT-loop
-Inv-loop name what most i₀ i = Unit {0}
+Inv-loop name what most p₀ i₀ p i = Unit {0}
 
 abbrev μ-loop : tie.MeasureT-loop
-μ-loop name what most i₀ i = most - i
+μ-loop name what most p₀ i₀ p i = most - i
 
 loop-holds : tie.Need-loop-holds Inv-loop μ-loop
 loop-holds c = tt
@@ -23,8 +23,8 @@ counts-spec =
     μ-loop
     loop-holds
     (λ c κs. search needs)
-    (λ c κs. search needs)
     (λ c. search needs)
+    (λ c κs. search needs)
     (λ c κs. search needs)
     (λ c. search needs)
     (λ c. search needs)

@@ -6,7 +6,7 @@ use lib.ListN.{length, take, drop}
 use mathlib.Core.List.{List, map}
 use Rattle.common.specs.Lists.{member}
 use Rattle.common.proofs.Lists.{turn, ended, member-here, member-next, member-nil}
-use Rattle.record.specs.declared.Endpoint.{Endpoint}
+use Rattle.plan.specs.declared.Endpoint.{Endpoint}
 use Rattle.limits.specs.Limits.{addressOf}
 use Rattle.limits.proofs.Laws.{blank}
 use Rattle.limits.proofs.again.Statement.{statement}

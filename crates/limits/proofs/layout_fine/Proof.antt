@@ -2,7 +2,7 @@ use mathlib.Core.Path.{_≡_}
 use mathlib.Core.Bool.{true}
 use lib.Dec.{leb}
 use borrow.Author.Tests.{le-leb}
-use Rattle.record.specs.Sizes.{interfaceRoom, endpointRoom}
+use Rattle.plan.specs.Sizes.{interfaceRoom, endpointRoom}
 use Rattle.common.proofs.Laws.{tests}
 use Rattle.limits.specs.Limits.{layoutFine}
 use borrow.Author.Needs.{needs}

@@ -1,6 +1,6 @@
 use mathlib.Core.Path.{refl}
-use Rattle.record.proofs.Record.new.Statement.{statement}
-use Rattle.record.proofs.Record.new.Tie as tie
+use Rattle.plan.proofs.Plan.new.Statement.{statement}
+use Rattle.plan.proofs.Plan.new.Tie as tie
 
 returns : tie.Need-returns
 returns c = refl

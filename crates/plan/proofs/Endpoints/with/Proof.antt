@@ -1,8 +1,8 @@
 use Rattle.common.proofs.Laws.{tests}
-use Rattle.record.specs.Filling.{addEndpoint}
+use Rattle.plan.specs.Planning.{addEndpoint}
 use borrow.Author.Needs.{needs}
-use Rattle.record.proofs.Endpoints.with.Statement.{statement}
-use Rattle.record.proofs.Endpoints.with.Tie as tie
+use Rattle.plan.proofs.Endpoints.with.Statement.{statement}
+use Rattle.plan.proofs.Endpoints.with.Tie as tie
 
 returns : tie.Need-returns
 unfolding addEndpoint

@@ -1,6 +1,6 @@
 use borrow.Author.Needs.{needs}
-use Rattle.record.proofs.Record.with_interface.Statement.{statement}
-use Rattle.record.proofs.Record.with_interface.Tie as tie
+use Rattle.plan.proofs.Plan.with_interface.Statement.{statement}
+use Rattle.plan.proofs.Plan.with_interface.Tie as tie
 
 returns : tie.Need-returns
 returns c = rw (c .with .ensures)

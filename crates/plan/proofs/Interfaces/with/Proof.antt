@@ -1,8 +1,8 @@
 use Rattle.common.proofs.Laws.{tests}
-use Rattle.record.specs.Filling.{addInterface}
+use Rattle.plan.specs.Planning.{addInterface}
 use borrow.Author.Needs.{needs}
-use Rattle.record.proofs.Interfaces.with.Statement.{statement}
-use Rattle.record.proofs.Interfaces.with.Tie as tie
+use Rattle.plan.proofs.Interfaces.with.Statement.{statement}
+use Rattle.plan.proofs.Interfaces.with.Tie as tie
 
 returns : tie.Need-returns
 unfolding addInterface
