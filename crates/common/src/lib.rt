@@ -1,6 +1,6 @@
-// What the mast's crates share: the refusals, words of two bytes, and the one copy of bytes.
+// What the mast's crates share: the refusals and the one copy of bytes.
 ghost use mathlib.Core.Path.{_≡_};
-ghost use Prim.Native.Nat.{_+_, _/_, _%_, _≤_};
+ghost use Prim.Native.Nat.{_+_, _≤_};
 ghost use lib.ListN.{length};
 ghost use lib.Dec.{leb};
 ghost use Rattle.common.specs.Refusals.{numberOf};
@@ -43,21 +43,6 @@ impl Refusal {
             Refusal::BadSetup => 11,
             Refusal::AnswerRoom => 12,
         }
-    }
-}
-
-// The two bytes of a word.
-pub struct Halves {
-    pub low: u8,
-    pub high: u8,
-}
-
-pub fn split(x: u16) -> Halves
-    ensures { λ r. ⌜ r ≡ record { low = x % 256; high = x / 256 } ⌝ }
-{
-    Halves {
-        low: (x % 256) as u8,
-        high: (x / 256) as u8,
     }
 }
 

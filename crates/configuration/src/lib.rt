@@ -84,15 +84,14 @@ fn put_head(plan: Plan, total: u16, buf: &mut [u8], at: usize)
     ensures { λ r. ⌜ now (buf .exit) ≡ placed (now (buf .entry)) at (headBytes plan total) ⌝ }
 {
     let b = plan.basics;
-    let t = common::split(total);
     let powered = value_if(b.powered, 64);
     let wakeup = value_if(b.wakeup, 32);
     let interfaces = plan.interfaces;
     let d = [
         9,
         2,
-        t.low,
-        t.high,
+        (total % 256) as u8,
+        (total / 256) as u8,
         interfaces.count,
         1,
         0,

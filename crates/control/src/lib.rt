@@ -146,10 +146,9 @@ impl Request {
     pub fn descriptor_type_index(self) -> TypeIndex
         ensures { λ r. ⌜ r ≡ typeIndexOf self ⌝ }
     {
-        let v = common::split(self.value);
         TypeIndex {
-            kind: v.high,
-            index: v.low,
+            kind: (self.value / 256) as u8,
+            index: (self.value % 256) as u8,
         }
     }
 }

@@ -57,9 +57,6 @@ fn put_device(plan: Plan, lens: &[u8; STRINGS], buf: &mut [u8], at: usize) -> Wr
 {
     let b = plan.basics;
     let n = plan.languages as usize;
-    let vendor = common::split(b.vendor);
-    let product = common::split(b.product);
-    let release = common::split(b.release);
     let first = string_number(lens, 0, n);
     let second = string_number(lens, 1, n);
     let third = string_number(lens, 2, n);
@@ -72,12 +69,12 @@ fn put_device(plan: Plan, lens: &[u8; STRINGS], buf: &mut [u8], at: usize) -> Wr
         b.subclass,
         b.protocol,
         b.packet,
-        vendor.low,
-        vendor.high,
-        product.low,
-        product.high,
-        release.low,
-        release.high,
+        (b.vendor % 256) as u8,
+        (b.vendor / 256) as u8,
+        (b.product % 256) as u8,
+        (b.product / 256) as u8,
+        (b.release % 256) as u8,
+        (b.release / 256) as u8,
         first,
         second,
         third,

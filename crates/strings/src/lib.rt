@@ -152,8 +152,8 @@ fn put_units(src: &[u16], from: usize, n: usize, buf: &mut [u8], at: usize)
 {
     let mut i: usize = 0;
     while i < n {
-        let u = common::split(src[from + i]);
-        put_two(u.low, u.high, buf, at + 2 * i);
+        let u = src[from + i];
+        put_two((u % 256) as u8, (u / 256) as u8, buf, at + 2 * i);
         i += 1;
     }
 }
