@@ -11,7 +11,6 @@ ghost use Rattle.record.specs.Filling.{bare, withPlan, withLanguages, wi
 ghost use Rattle.common.specs.Bytes.{placed};
 
 // The sizes, each named once.
-
 pub const LANGUAGES: usize = 4;
 
 pub const NAMES: usize = 3;
