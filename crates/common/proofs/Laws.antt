@@ -6,11 +6,11 @@ use mathlib.Core.Bool.{Bool, true, false, cond, _&&_, false≢true}
 use mathlib.Core.Path.{_≡_, refl, sym, ap, _∙_}
 use mathlib.Core.List.{List, [], _∷_, _++_, append-assoc, append-nil}
 use native.Mathlib.Omega.{arith}
-use native.Mathlib.Nat.{le-refl, add-zero, add-assoc}
+use native.Mathlib.Nat.{le-refl, zero-add, add-zero, add-assoc}
 use native.Mathlib.Numerals.{add-one}
 use lib.ListN.{length, getD, take, drop, length-take, length-append, length-drop, drop-of-length-le, take-append-drop}
 use lib.Seq.{slice-cons, paste, take-length, length-take-le, take-all, take-take, drop-drop, drop-append-add, take-at}
-use Rattle.common.specs.Bytes.{inside, part, placed, stored}
+use Rattle.common.specs.Bytes.{inside, part, placed, stored, piece, front}
 
 -- a test of numbers from its fact
 pub ruleset tests = (eq-eqb, ne-eqb, lt-ltb, le-ltb, le-leb, lt-leb)
@@ -19,6 +19,10 @@ pub ruleset tests = (eq-eqb, ne-eqb, lt-ltb, le-ltb, le-leb, lt-leb)
 pub cond-elim : {A : Type 0} (P : A → Type 0) (b : Bool) (x y : A) → (b ≡ true → P x) → (b ≡ false → P y) → P (cond b x y)
 cond-elim P true x y t f = t refl
 cond-elim P false x y t f = f refl
+
+pub cond-same : {A : Type 0} (b : Bool) (x : A) → cond b x x ≡ x
+cond-same true x = refl
+cond-same false x = refl
 
 -- two tests that say the same
 pub leb-iff : (a b c d : ℕ) → (a ≤ b → c ≤ d) → (c ≤ d → a ≤ b) → leb a b ≡ leb c d
@@ -84,6 +88,25 @@ module _ {A : Type 0} where
   stored-whole d s at n e l =
       let h : 0 + n ≤ length s = omega arith in
       stored-part d s at 0 n (le-leb _ _ h) (le-leb _ _ l) ∙ ap (λ (t : List A). placed d at t) (take-all n s (omega arith))
+
+  -- all of s over all of d
+  pub stored-over : (d s : List A) (n : ℕ) → n ≡ length s → length d ≡ length s → stored d 0 s 0 n ≡ s
+  unfolding placed
+  stored-over d s n e l =
+      let h : 0 + n ≤ length d = omega arith in
+      let k : length d ≤ 0 + length s = omega arith in
+      stored-whole d s 0 n e h ∙ rw (drop-of-length-le d k) (append-nil s)
+
+  -- a copy to the front of a room
+  pub stored-front : (r s : List A) (f n : ℕ) → stored r 0 s f n ≡ front (piece f n s) r
+  unfolding stored placed piece front
+  stored-front r s f n = at (inside s f n) refl
+    where
+      at : (t : Bool) → inside s f n ≡ t → cond (inside s f n && inside r 0 n) (take 0 r ++ (part f n s ++ drop (0 + length (part f n s)) r)) r ≡ cond (leb (length (cond (inside s f n) (part f n s) [])) (length r)) (cond (inside s f n) (part f n s) [] ++ drop (length (cond (inside s f n) (part f n s) [])) r) r
+      at true e =
+          let h : n ≤ length (drop f s) = let k : f + n ≤ length s = leb-true (f + n) (length s) e in simp length-drop (omega arith) in
+          rw (e, length-take-le n (drop f s) h, zero-add n)
+      at false e = rw e (sym (cond-same (leb 0 (length r)) r))
 
   -- what is placed leaves the length
   pub length-placed : (d s : List A) (at : ℕ) → at + length s ≤ length d → length (placed d at s) ≡ length d
