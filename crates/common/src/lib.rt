@@ -1,7 +1,7 @@
 // What the mast's crates share: the refusals and the one copy of bytes.
 ghost use mathlib.Core.Path.{_≡_};
 ghost use Prim.Native.Nat.{_+_, _≤_};
-ghost use lib.ListN.{length};
+ghost use lib.ListN.{length, replicate};
 ghost use lib.Dec.{leb};
 ghost use Rattle.common.specs.Refusals.{numberOf};
 ghost use Rattle.common.specs.Bytes.{part, placed, stored};
@@ -75,4 +75,15 @@ pub fn put(src: &[u8], from: usize, n: usize, dst: &mut [u8], at: usize)
         return;
     }
     copy_part(src, from, n, dst, at);
+}
+
+// Every byte becomes 0.
+pub fn clear(dst: &mut [u8])
+    ensures { λ r. ⌜ now (dst .exit) ≡ replicate (length (now (dst .entry))) 0 ⌝ }
+{
+    let mut i: usize = 0;
+    while i < dst.len() {
+        dst[i] = 0;
+        i += 1;
+    }
 }

@@ -1,14 +1,14 @@
 -- Laws of the pipe that its proofs cite. Assumes nothing.
 use Prim.Native.Nat.{ℕ, _+_, _-_, _≤_, _<_}
 use mathlib.Core.Bool.{Bool, true, false}
-use mathlib.Core.Path.{_≡_, refl, sym, _∙_, subst⁻¹}
+use mathlib.Core.Path.{_≡_, refl, sym, ap, _∙_, subst⁻¹}
 use mathlib.Core.List.{List, [], _∷_}
 use types.Run.{OneOf, miss}
 use denote.Enum.Declared.{tagOf}
 use native.Mathlib.Omega.{arith}
 use borrow.Author.Tests.{le-leb, lt-leb, leb-true, leb-false}
 use lib.Dec.{leb, eqb}
-use lib.ListN.{length}
+use lib.ListN.{length, replicate}
 use Rattle.common.specs.Bytes.{placed, stored, front}
 use Rattle.common.proofs.Laws.{cond-elim, cond-same, stored-full, stored-whole, placed-nil}
 use Rattle.control.specs.declared.Direction.{Direction}
@@ -110,6 +110,6 @@ pub front-nil : (room : List ℕ) → room ≡ front [] room
 unfolding front
 front-nil room = sym (cond-same (leb 0 (length room)) room)
 
--- the bytes held stay a word
-pub held-fits : (held n spare : ℕ) → spare ≡ bufferRoom - held → n ≤ spare → held < 65536 → held + n < 65536
-held-fits held n spare e l h = omega arith
+-- a buffer that is cleared is zero
+pub cleared : (b : List ℕ) → length b ≡ bufferRoom → replicate (length b) 0 ≡ zeros
+cleared b e = ap (λ (n : ℕ). replicate n 0) e

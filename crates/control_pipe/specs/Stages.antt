@@ -19,14 +19,13 @@ use Rattle.control_pipe.specs.declared.Stage.{Stage}
 use Rattle.control_pipe.specs.declared.Stage.the-variants.{Idle, DataIn, DataInZlp, DataInLast, CompleteIn, StatusOut, CompleteOut, DataOut, StatusIn, Error}
 use Rattle.control_pipe.specs.declared.Read.{Read}
 use Rattle.control_pipe.specs.declared.Read.the-variants.{Packet, Block, Fault}
-use Rattle.control_pipe.specs.declared.Action.{Action}
-use Rattle.control_pipe.specs.declared.Action.the-variants.{UnstallOut, UnstallIn, StallOut, StallIn, Write, Refused as Declined}
+use Rattle.control_pipe.specs.declared.Told.{Told}
+use Rattle.control_pipe.specs.declared.Told.the-variants.{Nothing, Unstalls, UnstallsStalls, Stalls, UnstallOut, Write, Refused as Declined}
 use Rattle.control_pipe.specs.declared.Source.{Source}
 use Rattle.control_pipe.specs.declared.Source.the-variants.{Buffer, Book}
 use Rattle.control_pipe.specs.declared.Reply.{Reply}
 use Rattle.control_pipe.specs.declared.Pipe.{Pipe}
 use Rattle.control_pipe.specs.declared.Moved.{Moved}
-use Rattle.control_pipe.specs.Actions.{packed, consed}
 use Rattle.control_pipe.specs.Sizes.{bufferRoom}
 
 -- what the pipe does at once: pipe and buffer then, what the bus is told, the packet that it is given, and whether something is
@@ -34,7 +33,7 @@ use Rattle.control_pipe.specs.Sizes.{bufferRoom}
 pub record Move : Type 0 where
   pub pipe : Pipe
   pub buffer : List ℕ
-  pub acts : List Action
+  pub told : Told
   pub packet : List ℕ
   pub done : Bool
 
@@ -45,11 +44,11 @@ at s p = record { stage = s; stallout = p .stallout; stallin = p .stallin; reque
 
 -- nothing
 abbrev pub still : Pipe → List ℕ → Move
-still p b = record { pipe = p; buffer = b; acts = []; packet = []; done = false }
+still p b = record { pipe = p; buffer = b; told = Nothing; packet = []; done = false }
 
 -- a request is complete, to be decided at once
 abbrev pub ready : Pipe → List ℕ → Move
-ready p b = record { pipe = p; buffer = b; acts = []; packet = []; done = true }
+ready p b = record { pipe = p; buffer = b; told = Nothing; packet = []; done = true }
 
 -- section 8.5.3.4: a control pipe stalls in both directions; its stalls are the halts of endpoint 0
 abbrev pub stalled : Pipe → List ℕ → Move
@@ -57,7 +56,7 @@ stalled p b =
     record {
       pipe = record { stage = Error; stallout = true; stallin = true; request = p .request; coming = p .coming; reply = p .reply };
       buffer = b;
-      acts = StallOut ∷ StallIn ∷ [];
+      told = Stalls;
       packet = [];
       done = false;
     }
@@ -83,23 +82,34 @@ idle = fresh Idle (record { direction = Out; kind = Standard; recipient = Device
 abbrev pub zeros : List ℕ
 zeros = replicate bufferRoom 0
 
+-- section 8.5.3.4: a SETUP ends the halts of endpoint 0. The buffer is zero; a request may be complete
+abbrev pub opened : Pipe → Bool → Move
+opened p done = record { pipe = p; buffer = zeros; told = Unstalls; packet = []; done = done }
+
+-- ended and stalled again
+abbrev pub overlong : Request → Move
+overlong q =
+    record {
+      pipe = stalled (fresh Error q 0) zeros .pipe;
+      buffer = zeros;
+      told = UnstallsStalls;
+      packet = [];
+      done = false;
+    }
+
 -- OUT: wLength 0 is complete, 1 to 128 has a data stage, more stalls
 unfoldable pub beginOut : Request → Move
 beginOut q =
-    cond (eqb (q .length) 0) (ready (fresh CompleteOut q 0) zeros)
-    (cond (leb (q .length) bufferRoom) (still (fresh DataOut q (q .length)) zeros) (stalled (fresh Error q 0) zeros))
+    cond (eqb (q .length) 0) (opened (fresh CompleteOut q 0) true)
+    (cond (leb (q .length) bufferRoom) (opened (fresh DataOut q (q .length)) false) (overlong q))
 
 -- IN: complete
 unfoldable pub beginBy : Direction → Request → Move
 beginBy Out q = beginOut q
-beginBy In q = ready (fresh CompleteIn q 0) zeros
-
--- section 8.5.3.4: a SETUP ends a halt of endpoint 0
-abbrev pub opened : Move → Move
-opened m = record { pipe = m .pipe; buffer = m .buffer; acts = UnstallOut ∷ UnstallIn ∷ m .acts; packet = m .packet; done = m .done }
+beginBy In q = opened (fresh CompleteIn q 0) true
 
 unfoldable pub begun : Parsed → Pipe → List ℕ → Move
-begun (Good q) p b = opened (beginBy (q .direction) q)
+begun (Good q) p b = beginBy (q .direction) q
 begun (Refused why) p b = still p b
 
 unfoldable pub setupCome : Read → List ℕ → Pipe → List ℕ → Move
@@ -125,7 +135,7 @@ grown n p =
 abbrev pub filled : Pipe → List ℕ → Move
 filled p b =
     let full = leb (p .coming .awaited) (p .coming .held) in
-    record { pipe = at (cond full CompleteOut DataOut) p; buffer = b; acts = []; packet = []; done = full }
+    record { pipe = at (cond full CompleteOut DataOut) p; buffer = b; told = Nothing; packet = []; done = full }
 
 -- a packet that the rest of the buffer does not take is a fault
 unfoldable pub addPacket : List ℕ → Pipe → List ℕ → Move
@@ -167,7 +177,7 @@ outCome r s p b = outAt (p .stage) r s p b
 -- ---- IN (sections 8.5.3 and 8.5.3.2)
 
 -- what the bus is told of a packet of n bytes, taken or refused
-abbrev pub written : Bool → ℕ → Action
+abbrev pub written : Bool → ℕ → Told
 written taken n = cond taken (Write n) (Declined n)
 
 abbrev pub bytesOf : Source → List ℕ → List ℕ → List ℕ
@@ -207,14 +217,14 @@ sendChunk size taken book p b =
     record {
       pipe = cond taken (advanced size n p) p;
       buffer = b;
-      acts = written taken n ∷ [];
+      told = written taken n;
       packet = chunkBytes size (p .reply) b book;
       done = false;
     }
 
 -- an empty packet, and the stage that it leads to
 abbrev pub sendEmpty : Bool → Stage → Pipe → List ℕ → Move
-sendEmpty taken next p b = record { pipe = cond taken (at next p) p; buffer = b; acts = written taken 0 ∷ []; packet = []; done = false }
+sendEmpty taken next p b = record { pipe = cond taken (at next p) p; buffer = b; told = written taken 0; packet = []; done = false }
 
 -- all is sent: the host's status may come
 abbrev pub awaitStatus : Pipe → List ℕ → Move
@@ -222,7 +232,7 @@ awaitStatus p b =
     record {
       pipe = record { stage = StatusOut; stallout = false; stallin = p .stallin; request = p .request; coming = p .coming; reply = p .reply };
       buffer = b;
-      acts = UnstallOut ∷ [];
+      told = UnstallOut;
       packet = [];
       done = false;
     }
@@ -266,10 +276,7 @@ acceptOut taken p b = sendEmpty taken StatusIn p b
 -- ---- what the code promises of a move
 
 abbrev pub moved : Move → Moved
-moved m = record { pipe = m .pipe; acts = packed (m .acts); done = m .done }
-
-abbrev pub unhalted : Moved → Moved
-unhalted r = record { pipe = r .pipe; acts = consed UnstallOut (consed UnstallIn (r .acts)); done = r .done }
+moved m = record { pipe = m .pipe; told = m .told; done = m .done }
 
 -- of one that may change the buffer
 pub record Took (r : Moved) (exit : List ℕ) (m : Move) : Type 0 where

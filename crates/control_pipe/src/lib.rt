@@ -1,8 +1,6 @@
 // Chapter 8 of USB 2.0: how the bytes of a control transfer travel through endpoint 0, stage by stage.
 // Every function is total: a pipe of any numbers, a packet, a book or a room of any length gets an answer.
-use control::BusAddress;
 use control::Direction;
-use control::EndpointAddress;
 use control::Parsed;
 use control::Recipient;
 use control::Request;
@@ -12,9 +10,8 @@ ghost use mathlib.Core.Bool.{cond};
 ghost use mathlib.Core.List.{[], _∷_};
 ghost use Prim.Native.Nat.{_-_, _≤_, min};
 ghost use Rattle.control_pipe.specs.Sizes.{bufferRoom};
-ghost use Rattle.control_pipe.specs.Actions.{packed, consed};
 ghost use Rattle.common.specs.Bytes.{piece, front};
-ghost use Rattle.control_pipe.specs.Stages.{Took, Left, Sent, moved, still, ready, stalled, unhalted, at, fresh, idle, begun, beginOut, beginBy, setupCome, grown, filled, addPacket, addRead, endRead, badRead, outCome, written, bytesOf, chunk, afterChunk, advanced, sendChunk, sendEmpty, awaitStatus, inComplete, answering, acceptIn, acceptOut};
+ghost use Rattle.control_pipe.specs.Stages.{Took, Left, Sent, moved, still, ready, stalled, opened, at, fresh, idle, begun, beginOut, beginBy, setupCome, grown, filled, addPacket, addRead, endRead, badRead, outCome, written, bytesOf, chunk, afterChunk, advanced, sendChunk, sendEmpty, awaitStatus, inComplete, answering, acceptIn, acceptOut};
 
 // The bytes of the control buffer.
 pub const BUFFER: usize = 128;
@@ -40,30 +37,15 @@ pub enum Read {
     Fault,
 }
 
-// What the bus is told. `Write` and `Refused` count the bytes of the packet that stands at the front of the room.
-pub enum Action {
+// What the bus is told of endpoint 0. `Write` and `Refused` count the bytes of the packet at the front of the room.
+pub enum Told {
     Nothing,
-    Resume,
-    Suspend,
-    Reset,
+    Unstalls,
+    UnstallsStalls,
+    Stalls,
     UnstallOut,
-    UnstallIn,
-    StallOut,
-    StallIn,
-    Halt(EndpointAddress),
-    Unhalt(EndpointAddress),
-    Address(BusAddress),
     Write(u8),
     Refused(u8),
-}
-
-// What a step tells the bus, in order; `Nothing` from the first free slot on.
-pub struct Actions {
-    pub first: Action,
-    pub second: Action,
-    pub third: Action,
-    pub fourth: Action,
-    pub fifth: Action,
 }
 
 // Where the bytes of an IN answer lie.
@@ -99,39 +81,8 @@ pub struct Pipe {
 // What the pipe does at once. `done`: a request is complete, or at an IN-complete a status stage.
 pub struct Moved {
     pub pipe: Pipe,
-    pub acts: Actions,
+    pub told: Told,
     pub done: bool,
-}
-
-impl Actions {
-    pub fn none() -> Actions
-        ensures { λ r. ⌜ r ≡ packed [] ⌝ }
-    {
-        Actions {
-            first: Action::Nothing,
-            second: Action::Nothing,
-            third: Action::Nothing,
-            fourth: Action::Nothing,
-            fifth: Action::Nothing,
-        }
-    }
-
-    // One more before the others.
-    pub fn after(self, action: Action) -> Actions
-        ensures { λ r. ⌜ r ≡ consed action self ⌝ }
-    {
-        let second = self.first;
-        let third = self.second;
-        let fourth = self.third;
-        let fifth = self.fourth;
-        Actions {
-            first: action,
-            second,
-            third,
-            fourth,
-            fifth,
-        }
-    }
 }
 
 impl Pipe {
@@ -193,7 +144,7 @@ impl Pipe {
     {
         Moved {
             pipe: self,
-            acts: Actions::none(),
+            told: Told::Nothing,
             done: false,
         }
     }
@@ -203,8 +154,19 @@ impl Pipe {
     {
         Moved {
             pipe: self,
-            acts: Actions::none(),
+            told: Told::Nothing,
             done: true,
+        }
+    }
+
+    // A SETUP ends the halts of endpoint 0.
+    fn opened(self, done: bool) -> Moved
+        ensures { λ r. ⌜ r ≡ moved (opened self done) ⌝ }
+    {
+        Moved {
+            pipe: self,
+            told: Told::Unstalls,
+            done,
         }
     }
 
@@ -217,23 +179,9 @@ impl Pipe {
         pipe.stallin = true;
         Moved {
             pipe,
-            acts: Actions::none()
-                .after(Action::StallIn)
-                .after(Action::StallOut),
+            told: Told::Stalls,
             done: false,
         }
-    }
-}
-
-impl Moved {
-    // A SETUP ends the halts of endpoint 0.
-    fn opened(self) -> Moved
-        ensures { λ r. ⌜ r ≡ unhalted self ⌝ }
-    {
-        let acts = self.acts;
-        let mut next = self;
-        next.acts = acts.after(Action::UnstallIn).after(Action::UnstallOut);
-        next
     }
 }
 
@@ -244,12 +192,19 @@ impl Pipe {
     {
         let n = request.length;
         if n == 0 {
-            return Pipe::fresh(Stage::CompleteOut, request, 0).ready();
+            return Pipe::fresh(Stage::CompleteOut, request, 0).opened(true);
         }
         if n as usize <= BUFFER {
-            return Pipe::fresh(Stage::DataOut, request, n).still();
+            return Pipe::fresh(Stage::DataOut, request, n).opened(false);
         }
-        Pipe::fresh(Stage::Error, request, 0).stalled()
+        let mut pipe = Pipe::fresh(Stage::Error, request, 0);
+        pipe.stallout = true;
+        pipe.stallin = true;
+        Moved {
+            pipe,
+            told: Told::UnstallsStalls,
+            done: false,
+        }
     }
 
     fn begin_by(direction: Direction, request: Request) -> Moved
@@ -257,7 +212,7 @@ impl Pipe {
     {
         match direction {
             Direction::Out => Pipe::begin_out(request),
-            Direction::In => Pipe::fresh(Stage::CompleteIn, request, 0).ready(),
+            Direction::In => Pipe::fresh(Stage::CompleteIn, request, 0).opened(true),
         }
     }
 
@@ -266,9 +221,9 @@ impl Pipe {
     {
         match answer {
             Parsed::Good(request) => {
-                common::put(&[0u8; BUFFER], 0, BUFFER, buffer, 0);
+                common::clear(buffer);
                 let direction = request.direction;
-                Pipe::begin_by(direction, request).opened()
+                Pipe::begin_by(direction, request)
             }
             Parsed::Refused(_) => self.still(),
         }
@@ -392,13 +347,13 @@ fn least(a: u32, b: u32) -> u32
 }
 
 // What the bus is told of a packet of n bytes.
-fn written(taken: bool, n: u8) -> Actions
-    ensures { λ r. ⌜ r ≡ packed (written taken n ∷ []) ⌝ }
+fn written(taken: bool, n: u8) -> Told
+    ensures { λ r. ⌜ r ≡ written taken n ⌝ }
 {
     if taken {
-        return Actions::none().after(Action::Write(n));
+        return Told::Write(n);
     }
-    Actions::none().after(Action::Refused(n))
+    Told::Refused(n)
 }
 
 // The n bytes of the answer's source from `from` on go to the front of the room.
@@ -478,7 +433,7 @@ impl Pipe {
         let few = n as u8;
         Moved {
             pipe: self.onward(size, taken, few),
-            acts: written(taken, few),
+            told: written(taken, few),
             done: false,
         }
     }
@@ -490,13 +445,13 @@ impl Pipe {
         if taken {
             return Moved {
                 pipe: self.at(next),
-                acts: written(taken, 0),
+                told: written(taken, 0),
                 done: false,
             };
         }
         Moved {
             pipe: self,
-            acts: written(taken, 0),
+            told: written(taken, 0),
             done: false,
         }
     }
@@ -509,7 +464,7 @@ impl Pipe {
         pipe.stallout = false;
         Moved {
             pipe,
-            acts: Actions::none().after(Action::UnstallOut),
+            told: Told::UnstallOut,
             done: false,
         }
     }

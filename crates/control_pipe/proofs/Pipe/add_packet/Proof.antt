@@ -1,4 +1,3 @@
-use Rattle.control_pipe.proofs.Laws.{held-fits}
 use Rattle.control_pipe.specs.Sizes.{bufferRoom}
 use denote.Ref.{now}
 use lib.ListN.{length}
@@ -15,9 +14,6 @@ returns : tie.Need-returns
 unfolding addPacket
 returns c = let l : bufferRoom - c .before .before .before .before .before .args .self .coming .held < length (now (c .before .before .before .before .before .args .packet)) = rw (← (c .before .before .spare .ensures)) (c .before .if1 .taken) in rw (lt-leb _ _ l) (record { value = c .stalled .ensures; buffer = refl })
 
-cast-sum : tie.Need-cast-sum
-cast-sum c = record { fits = held-fits (c .before .before .before .before .before .before .args .self .coming .held) _ _ (c .before .before .before .spare .ensures) (c .before .before .if1 .left) (search needs) }
-
 returns-2 : tie.Need-returns-2
 unfolding addPacket
 returns-2 c = let l : length (now (c .before .before .before .before .before .before .before .before .args .packet)) ≤ bufferRoom - c .before .before .before .before .before .before .before .before .args .self .coming .held = rw (← (c .before .before .before .before .before .spare .ensures)) (c .before .before .before .before .if1 .left) in rw (le-leb _ _ l) (record { value = c .filled .ensures; buffer = c .before .before .put .ensures ∙ added _ _ _ _ (search needs) refl l })
@@ -32,6 +28,6 @@ add-packet-spec =
     returns
     (λ c κs. search needs)
     (λ c. search needs)
-    cast-sum
+    (λ c. search needs)
     (λ c κs. search needs)
     returns-2)

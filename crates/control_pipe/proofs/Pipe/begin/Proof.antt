@@ -1,8 +1,7 @@
-use mathlib.Core.Path.{_∙_, sym}
-use Rattle.control_pipe.specs.Stages.{zeros}
+use denote.Ref.{now}
+use Rattle.control_pipe.proofs.Laws.{begin-zeros, cleared}
 use Rattle.control_pipe.proofs.Laws.{begin-zeros}
-use Rattle.common.proofs.Laws.{stored-over}
-use mathlib.Core.Path.{refl}
+use mathlib.Core.Path.{refl, _∙_, sym}
 use Rattle.control_pipe.specs.Stages.{begun}
 use borrow.Author.Needs.{needs}
 use Rattle.control_pipe.proofs.Pipe.begin.Statement.{statement}
@@ -10,7 +9,7 @@ use Rattle.control_pipe.proofs.Pipe.begin.Tie as tie
 
 returns : tie.Need-returns
 unfolding begun
-returns c = rw (c .before .before .before .before .before .before .answer .given .1) (record { value = simp (c .opened .ensures, c .before .begin-by .ensures); buffer = c .before .before .put .ensures ∙ (stored-over _ zeros 128 refl (search needs) ∙ sym (begin-zeros _ _)) })
+returns c = rw (c .before .before .before .before .answer .given .1) (record { value = c .begin-by .ensures; buffer = c .before .clear .ensures ∙ (cleared (now (c .before .before .before .before .before .before .args .buffer)) (search needs) ∙ sym (begin-zeros _ _)) })
 
 returns-2 : tie.Need-returns-2
 unfolding begun
@@ -21,8 +20,6 @@ begin-spec =
     tie.close
     (tie.spec
     (λ c. search needs)
-    (λ c. search needs)
-    (λ c κs. search needs)
     (λ c κs. search needs)
     (λ c κs. search needs)
     (λ c. search needs)

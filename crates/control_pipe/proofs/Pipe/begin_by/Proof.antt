@@ -9,7 +9,7 @@ returns c = rw (c .before .enum-told .given .1) (c .begin-out .ensures)
 
 returns-2 : tie.Need-returns-2
 unfolding beginBy
-returns-2 c = rw (c .before .before .enum-told2 .given .1) (simp (c .ready .ensures, c .before .fresh .ensures))
+returns-2 c = rw (c .before .before .enum-told2 .given .1) (simp (c .opened .ensures, c .before .fresh .ensures))
 
 pub begin-by-spec : {M : Type 1} → statement M
 begin-by-spec =
