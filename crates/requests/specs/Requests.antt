@@ -7,6 +7,7 @@ use lib.Bits.{bitAnd, bitOr}
 use Rattle.common.specs.Lists.{between}
 use Rattle.control.specs.declared.BusAddress.{BusAddress}
 use Rattle.control.specs.declared.EndpointAddress.{EndpointAddress}
+use Rattle.control.specs.declared.TileNumber.{TileNumber}
 use Rattle.control.specs.declared.Direction.{Direction}
 use Rattle.control.specs.declared.Direction.the-variants.{In, Out}
 use Rattle.control.specs.declared.RequestType.{RequestType}
@@ -63,31 +64,34 @@ configuredByte Addressed = 0
 configuredByte Configured = 1
 configuredByte Suspend = 0
 
--- sections 9.4.5 GET_STATUS (bit 0 self-powered, bit 1 remote wakeup), 9.4.3 GET_DESCRIPTOR, 9.4.2 GET_CONFIGURATION
-unfoldable pub deviceIn : Kept → Request → Decision
-deviceIn k q =
-    cond (eqb (q .request) 0) (Status (statusBits (k .powered) 1 + statusBits (k .wakeup) 2))
-    (cond (eqb (q .request) 6) Describe
-    (cond (eqb (q .request) 8) (Byte (configuredByte (k .state))) Stall))
+-- sections 9.4.5 GET_STATUS (0; bit 0 self-powered, bit 1 remote wakeup), 9.4.3 GET_DESCRIPTOR (6), 9.4.2 GET_CONFIGURATION (8)
+unfoldable pub deviceIn : Kept → ℕ → Decision
+deviceIn k code =
+    cond (eqb code 0) (Status (statusBits (k .powered) 1 + statusBits (k .wakeup) 2))
+    (cond (eqb code 6) Describe (cond (eqb code 8) (Byte (configuredByte (k .state))) Stall))
 
--- sections 9.4.5 GET_STATUS, 9.4.4 GET_INTERFACE of an interface 0 to 255
-unfoldable pub interfaceIn : Request → Decision
-interfaceIn q = cond (eqb (q .request) 0) (Status 0) (cond (eqb (q .request) 10 && leb (q .index) 255) (Byte 0) Stall)
+-- sections 9.4.5 GET_STATUS, 9.4.4 GET_INTERFACE (10) of an interface 0 to 255
+unfoldable pub interfaceIn : ℕ → ℕ → Decision
+interfaceIn code index = cond (eqb code 0) (Status 0) (cond (eqb code 10) (cond (leb index 255) (Byte 0) Stall) Stall)
 
 -- section 9.4.5 GET_STATUS (bit 0 halt)
-unfoldable pub endpointIn : Kept → Pipe → Request → Decision
-endpointIn k p q = cond (eqb (q .request) 0) (Status (statusBits (halted k p (endpointOf (q .index))) 1)) Stall
+unfoldable pub endpointIn : Kept → Pipe → ℕ → ℕ → Decision
+endpointIn k p code index = cond (eqb code 0) (Status (statusBits (halted k p (endpointOf index)) 1)) Stall
 
 unfoldable pub standardIn : Recipient → Kept → Pipe → Request → Decision
-standardIn Device k p q = deviceIn k q
-standardIn Interface k p q = interfaceIn q
-standardIn Endpoint k p q = endpointIn k p q
+standardIn Device k p q = deviceIn k (q .request)
+standardIn Interface k p q = interfaceIn (q .request) (q .index)
+standardIn Endpoint k p q = endpointIn k p (q .request) (q .index)
 standardIn Other k p q = Stall
 standardIn Reserved k p q = Stall
 
--- document 01, tile read: request 1, wIndex 0, from a record of the book on
+-- document 01, tile read: from a record of the book on, to its end
+unfoldable pub tilesFrom : TileNumber → ℕ → Decision
+tilesFrom first book = cond (ltb (first .0) (book / tileSize)) (Tiles (first .0 * tileSize)) Stall
+
+-- code 1, wIndex 0
 unfoldable pub tilesIn : Request → ℕ → Decision
-tilesIn q book = cond (eqb (q .request) 1 && eqb (q .index) 0 && ltb (q .value) (book / tileSize)) (Tiles (q .value * tileSize)) Stall
+tilesIn q book = cond (eqb (q .request) 1 && eqb (q .index) 0) (tilesFrom (record { 0 = q .value }) book) Stall
 
 unfoldable pub vendorIn : Recipient → Request → ℕ → Decision
 vendorIn Device q book = tilesIn q book
@@ -104,6 +108,10 @@ decideIn ReservedType k p q book = Stall
 
 -- ---- OUT requests
 
+-- section 9.4.6: 1 to 127
+unfoldable pub setAddress : ℕ → Decision
+setAddress value = cond (between 1 127 value) (Accept (Address (record { 0 = value }))) Stall
+
 -- section 9.4.7: 1 configures; 0 deconfigures, and changes nothing in the default state
 abbrev pub deconfigured : State → Effect
 deconfigured Default = Nothing
@@ -111,29 +119,33 @@ deconfigured Addressed = Turn Addressed
 deconfigured Configured = Turn Addressed
 deconfigured Suspend = Turn Addressed
 
--- sections 9.4.1 CLEAR_FEATURE and 9.4.9 SET_FEATURE (remote wakeup, 1), 9.4.6 SET_ADDRESS, 9.4.7 SET_CONFIGURATION
-unfoldable pub deviceOut : Kept → Request → Decision
-deviceOut k q =
-    cond (eqb (q .request) 1 && eqb (q .value) 1) (Accept (Wakeup false))
-    (cond (eqb (q .request) 3 && eqb (q .value) 1) (Accept (Wakeup true))
-    (cond (eqb (q .request) 5 && between 1 127 (q .value)) (Accept (Address (record { 0 = q .value })))
-    (cond (eqb (q .request) 9 && eqb (q .value) 1) (Accept (Turn Configured))
-    (cond (eqb (q .request) 9 && eqb (q .value) 0) (Accept (deconfigured (k .state))) Stall))))
+unfoldable pub setConfiguration : State → ℕ → Decision
+setConfiguration s value = cond (eqb value 1) (Accept (Turn Configured)) (cond (eqb value 0) (Accept (deconfigured s)) Stall)
 
--- section 9.4.10 SET_INTERFACE: setting 0 of an interface 0 to 255
-unfoldable pub interfaceOut : Request → Decision
-interfaceOut q = cond (eqb (q .request) 11 && eqb (q .value) 0 && leb (q .index) 255) (Accept Nothing) Stall
+-- sections 9.4.1 CLEAR_FEATURE and 9.4.9 SET_FEATURE: the one feature of a recipient
+abbrev pub feature : ℕ → ℕ → Effect → Decision
+feature n value e = cond (eqb value n) (Accept e) Stall
 
--- sections 9.4.1 CLEAR_FEATURE and 9.4.9 SET_FEATURE (halt, 0)
-unfoldable pub endpointOut : Request → Decision
-endpointOut q =
-    cond (eqb (q .request) 1 && eqb (q .value) 0) (Accept (Unhalt (endpointOf (q .index))))
-    (cond (eqb (q .request) 3 && eqb (q .value) 0) (Accept (Halt (endpointOf (q .index)))) Stall)
+-- CLEAR_FEATURE (1) and SET_FEATURE (3) of remote wakeup (1), SET_ADDRESS (5), SET_CONFIGURATION (9)
+unfoldable pub deviceOut : State → ℕ → ℕ → Decision
+deviceOut s code value =
+    cond (eqb code 1) (feature 1 value (Wakeup false))
+    (cond (eqb code 3) (feature 1 value (Wakeup true))
+    (cond (eqb code 5) (setAddress value) (cond (eqb code 9) (setConfiguration s value) Stall)))
+
+-- section 9.4.10 SET_INTERFACE (11): setting 0 of an interface 0 to 255
+unfoldable pub interfaceOut : ℕ → ℕ → ℕ → Decision
+interfaceOut code value index = cond (eqb code 11 && eqb value 0 && leb index 255) (Accept Nothing) Stall
+
+-- CLEAR_FEATURE (1) and SET_FEATURE (3) of halt (0)
+unfoldable pub endpointOut : ℕ → ℕ → ℕ → Decision
+endpointOut code value index =
+    cond (eqb code 1) (feature 0 value (Unhalt (endpointOf index))) (cond (eqb code 3) (feature 0 value (Halt (endpointOf index))) Stall)
 
 unfoldable pub standardOut : Recipient → Kept → Request → Decision
-standardOut Device k q = deviceOut k q
-standardOut Interface k q = interfaceOut q
-standardOut Endpoint k q = endpointOut q
+standardOut Device k q = deviceOut (k .state) (q .request) (q .value)
+standardOut Interface k q = interfaceOut (q .request) (q .value) (q .index)
+standardOut Endpoint k q = endpointOut (q .request) (q .value) (q .index)
 standardOut Other k q = Stall
 standardOut Reserved k q = Stall
 

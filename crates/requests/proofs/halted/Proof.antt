@@ -1,29 +1,21 @@
+use Rattle.requests.specs.Requests.{halted}
+use borrow.Author.Tests.{eq-eqb, ne-eqb, le-leb, lt-leb, lt-ltb, le-ltb}
+use Rattle.common.proofs.Laws.{tests}
 use borrow.Author.Needs.{needs}
 use Rattle.requests.proofs.halted.Statement.{statement}
 use Rattle.requests.proofs.halted.Tie as tie
-use Rattle.requests.proofs.halted.Reads as reads
-use Rattle.requests.proofs.halted.Lts as lts
-use Rattle.requests.proofs.halt_place.Reads as halt-place-reads
 
--- src/lib.rt:89:30
-halt-place-requires : tie.Need-halt-place-requires
-halt-place-requires c κs = search needs
-
--- src/lib.rt:89:16
-shr-result : tie.Need-shr-result
-shr-result c = search needs
-
--- src/lib.rt:89:9
 returns : tie.Need-returns
-returns c = ?
+unfolding halted
+returns c = simp (ne-eqb, c .before .before .if1 .taken, c .before .halt-place .ensures .0)
 
--- src/lib.rt:92:9
 returns-2 : tie.Need-returns-2
-returns-2 c = ?
+unfolding halted
+returns-2 c = search (needs, tests)
 
--- src/lib.rt:85:1
 returns-3 : tie.Need-returns-3
-returns-3 c = ?
+unfolding halted
+returns-3 c = search (needs, tests)
 
 pub halted-spec : {M : Type 1} → statement M
-halted-spec = tie.close (tie.spec halt-place-requires shr-result returns returns-2 returns-3)
+halted-spec = tie.close (tie.spec (λ c κs. search needs) (λ c. search needs) returns returns-2 returns-3)
