@@ -6,7 +6,7 @@ use mathlib.Core.List.{List, [], _∷_, _++_, map}
 use native.Mathlib.Omega.{arith}
 use borrow.Author.Tests.{eqb-true, eqb-false, ltb-true}
 use lib.Dec.{eqb, ltb}
-use lib.ListN.{length, take, replicate, length-append}
+use lib.ListN.{length, take, replicate, length-append, length-take}
 use lib.Seq.{length-take-le}
 use Rattle.common.specs.Lists.{between, every, member, noneTwice}
 use Rattle.common.proofs.Laws.{and-left, and-right}
@@ -109,9 +109,37 @@ module _ (p : Plan) (s : Shaped p) (fine : layoutFine p ≡ true) where
   unfolding configurationBytes headBytes
   length-configuration = omega (arith, length-body)
 
-  -- .. so that the longest is 9 + 36 + 56 = 101 bytes
-  pub longest-configuration : length (configurationBytes p) ≤ 101
-  longest-configuration = let f = layout-facts p fine in omega (arith, length-configuration, f .interfaces, f .endpoints)
+-- .. so that the longest is 9 + 36 + 56 = 101 bytes; whatever the lengths of its lists
+owned-once : (e : Endpoint) (i : ℕ) (xs : List Interface) → owners (e ∷ []) i xs ≤ 1
+unfolding owners
+owned-once e i [] = omega arith
+owned-once e i (x ∷ xs) = go (eqb (e .interface) i) refl (owned-once e (i + 1) xs)
+  where
+    go : (b : Bool) → eqb (e .interface) i ≡ b → owners (e ∷ []) (i + 1) xs ≤ 1 → length (owned i (e ∷ [])) + owners (e ∷ []) (i + 1) xs ≤ 1
+    go true t more =
+        let k = eqb-true (e .interface) i t in
+        let o : length (owned i (e ∷ [])) ≡ 1 = ap length (owned-here i e [] k ∙ ap (λ r. e ∷ r) (owned-nil i)) in
+        omega (arith, o, before-all e (i + 1) xs (omega (arith, k)))
+    go false t more =
+        let o : length (owned i (e ∷ [])) ≡ 0 = ap length (owned-other i e [] (eqb-false (e .interface) i t) ∙ owned-nil i) in
+        omega (arith, o, more)
+
+few-owners : (es : List Endpoint) (i : ℕ) (xs : List Interface) → owners es i xs ≤ length es
+few-owners [] i xs = omega (arith, no-owners i xs)
+few-owners (e ∷ es) i xs = omega (arith, owners-cons e es i xs, owned-once e i xs, few-owners es i xs)
+
+at-most : {A : Type 0} (n : ℕ) (l : List A) → length (take n l) ≤ n
+at-most n l = rw (length-take n l) (omega arith)
+
+pub longest-configuration : (p : Plan) → layoutFine p ≡ true → length (configurationBytes p) ≤ 101
+unfolding configurationBytes headBytes bodyBytes
+longest-configuration p fine =
+    let f = layout-facts p fine in
+    let es = take (p .endpoints .count) (p .endpoints .list) in
+    let xs = take (p .interfaces .count) (p .interfaces .list) in
+    let n : length xs ≤ p .interfaces .count = at-most (p .interfaces .count) (p .interfaces .list) in
+    let m : length es ≤ p .endpoints .count = at-most (p .endpoints .count) (p .endpoints .list) in
+    omega (arith, length-sets es 0 xs, few-owners es 0 xs, n, m, f .interfaces, f .endpoints)
 
 -- .. and there is one: four interfaces with two endpoints each
 abbrev pub pair : ℕ → List Endpoint

@@ -1,3 +1,4 @@
 pub mod Filled
 pub mod Laws
+pub mod Lengths
 pub mod Pinned
