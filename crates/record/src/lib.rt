@@ -5,7 +5,7 @@ use plan::Plan;
 use plan::SPOILT;
 ghost use mathlib.Core.Path.{_≡_};
 ghost use Prim.Native.Nat.{_+_, _≤_, _<_};
-ghost use lib.ListN.{length, replicate};
+ghost use lib.ListN.{length};
 ghost use Rattle.record.specs.Sizes.{names, stringRoom};
 ghost use Rattle.record.specs.Filling.{bare, withPlan, withLanguages, withLanguage, withString, withText, withLength, nameOf};
 ghost use Rattle.common.specs.Bytes.{placed};
@@ -75,8 +75,9 @@ impl Record {
         }
         let mut ids = self.ids;
         ids[n] = id;
+        let none = [0u8; NAMES];
         let mut lens = self.lens;
-        clear(&mut lens, NAMES * n);
+        common::put(&none, 0, NAMES, &mut lens, NAMES * n);
         let mut next = self.counting(count + 1);
         next.ids = ids;
         next.lens = lens;
@@ -133,15 +134,6 @@ impl Record {
         next.lens[at] = len;
         next
     }
-}
-
-// No string from a place on, as many as a language has.
-fn clear(lens: &mut [u8], at: usize)
-    requires { ⌜ at + names ≤ length (now lens) ⌝ }
-    ensures { λ r. ⌜ now (lens .exit) ≡ placed (now (lens .entry)) at (replicate names 0) ⌝ }
-{
-    let none = [0u8; NAMES];
-    common::put(&none, 0, NAMES, lens, at);
 }
 
 // The units of a string go to their place.
