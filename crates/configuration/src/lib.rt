@@ -43,14 +43,12 @@ fn put_configuration(plan: Plan, buf: &mut [u8], at: usize) -> Written
     requires { ⌜ layoutFine plan ≡ true ⌝ }
     ensures { λ r. ⌜ Put r (now (buf .exit)) (some (configurationBytes plan)) (now (buf .entry)) at ⌝ }
 {
-    let interfaces = plan.interfaces;
-    let endpoints = plan.endpoints;
-    let faces = interfaces.list;
+    let faces = plan.interfaces.list;
     let list = interface_list(faces);
-    let ends = endpoints.list;
+    let ends = plan.endpoints.list;
     let all = endpoint_list(ends);
-    let n = interfaces.count as usize;
-    let m = endpoints.count as usize;
+    let n = plan.interfaces.count as usize;
+    let m = plan.endpoints.count as usize;
     let total = 9 + 9 * n + 7 * m;
     if !common::within(buf.len(), at, total) {
         return Written::Refused(Refusal::AnswerRoom);
@@ -86,13 +84,12 @@ fn put_head(plan: Plan, total: u16, buf: &mut [u8], at: usize)
     let b = plan.basics;
     let powered = value_if(b.powered, 64);
     let wakeup = value_if(b.wakeup, 32);
-    let interfaces = plan.interfaces;
     let d = [
         9,
         2,
         (total % 256) as u8,
         (total / 256) as u8,
-        interfaces.count,
+        plan.interfaces.count,
         1,
         0,
         128 + powered + wakeup,

@@ -17,7 +17,7 @@ use Rattle.configuration.proofs.put_configuration.Tie as tie
 
 returns : tie.Need-returns
 returns c =
-    let s = c .before .before .before .before .before .before .before .before .before .before .before in
+    let s = c .before .before .before .before .before .before .before .before .before in
     let a = s .args in
     let h : Shaped (a .plan) = record { interfaces = c .before .before .before .before .before .before .interface-list .ensures .long; endpoints = c .before .before .before .before .endpoint-list .ensures .long } in
     let t = length-configuration (a .plan) h (s .pre) in
@@ -26,21 +26,21 @@ returns c =
 
 put-head-requires : tie.Need-put-head-requires
 put-head-requires c κs =
-    let a = c .before .before .before .before .before .before .before .before .before .before .before .before .args in
+    let a = c .before .before .before .before .before .before .before .before .before .before .args in
     let l : a .at + (9 + 9 * a .plan .interfaces .count + 7 * a .plan .endpoints .count) ≤ length (now (a .buf)) = leb-true _ _ (sym (c .before .before .within .ensures) ∙ not-false _ (c .before .if1 .left)) in
     let m : a .at + 9 ≤ length (now (a .buf)) = omega (arith, l) in
     m
 
 add-put-interfaces : tie.Need-add-put-interfaces
 add-put-interfaces c =
-    let a = c .before .before .before .before .before .before .before .before .before .before .before .before .before .before .before .before .args in
+    let a = c .before .before .before .before .before .before .before .before .before .before .before .before .before .before .args in
     let l : a .at + (9 + 9 * a .plan .interfaces .count + 7 * a .plan .endpoints .count) ≤ length (now (a .buf)) = leb-true _ _ (sym (c .before .before .before .before .before .before .within .ensures) ∙ not-false _ (c .before .before .before .before .before .if1 .left)) in
-    omega (arith, l, c .before .before .before .before .before .before .before .before .before .before .before .before .before .before .before .before .good)
+    omega (arith, l, c .before .before .before .before .before .before .before .before .before .before .before .before .before .before .good)
 
 put-interfaces-requires : tie.Need-put-interfaces-requires
 unfolding bodyBytes
 put-interfaces-requires c κs =
-    let s = c .before .before .before .before .before .before .before .before .before .before .before .before .before .before .before .before in
+    let s = c .before .before .before .before .before .before .before .before .before .before .before .before .before .before in
     let a = s .args in
     let f = layout-facts (a .plan) (s .pre) in
     let h : Shaped (a .plan) = record { interfaces = c .before .before .before .before .before .before .before .before .before .before .before .interface-list .ensures .long; endpoints = c .before .before .before .before .before .before .before .before .before .endpoint-list .ensures .long } in
@@ -53,7 +53,7 @@ put-interfaces-requires c κs =
 returns-2 : tie.Need-returns-2
 unfolding bodyBytes
 returns-2 c =
-    let s = c .before .before .before .before .before .before .before .before .before .before .before .before .before .before .before .before .before .before .before in
+    let s = c .before .before .before .before .before .before .before .before .before .before .before .before .before .before .before .before .before in
     let a = s .args in
     let h : Shaped (a .plan) = record { interfaces = c .before .before .before .before .before .before .before .before .before .before .before .before .before .before .interface-list .ensures .long; endpoints = c .before .before .before .before .before .before .before .before .before .before .before .before .endpoint-list .ensures .long } in
     let t = length-configuration (a .plan) h (s .pre) in

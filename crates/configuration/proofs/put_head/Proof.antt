@@ -9,9 +9,9 @@ use Rattle.configuration.proofs.put_head.Tie as tie
 returns : tie.Need-returns
 unfolding headBytes
 returns c =
-    let s = c .before .before .before .before .before .before .before .before .before .before in
+    let s = c .before .before .before .before .before .before .before .before .before in
     let a = s .args in
-    rw (← c .before .before .before .before .before .before .before .value-if .ensures .0, ← c .before .before .before .before .before .before .value-if2 .ensures .0)
+    rw (← c .before .before .before .before .before .before .value-if .ensures .0, ← c .before .before .before .before .before .value-if2 .ensures .0)
     (c .before .before .put .ensures ∙ stored-whole (now (a .buf)) _ (a .at) 9 refl (s .pre))
 
 pub put-head-spec : {M : Type 1} → statement M
