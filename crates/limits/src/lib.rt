@@ -54,10 +54,8 @@ fn packet_fine(size: u8) -> bool
 fn layout_fine(plan: Plan) -> bool
     ensures { λ r. ⌜ r ≡ layoutFine plan ⌝ }
 {
-    let interfaces = plan.interfaces;
-    let endpoints = plan.endpoints;
-    let count = interfaces.count;
-    let n = endpoints.count as usize;
+    let count = plan.interfaces.count;
+    let n = plan.endpoints.count as usize;
     if POWER < plan.basics.power {
         return false;
     }
@@ -70,7 +68,7 @@ fn layout_fine(plan: Plan) -> bool
     if ENDPOINTS < n {
         return false;
     }
-    let list = endpoints.list;
+    let list = plan.endpoints.list;
     endpoints_fine(list, n, count)
 }
 

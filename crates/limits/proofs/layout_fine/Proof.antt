@@ -28,7 +28,7 @@ returns-4 c = search (needs, tests)
 returns-5 : tie.Need-returns-5
 unfolding layoutFine
 returns-5 c =
-    let p = c .before .before .before .before .before .before .before .before .before .before .args .plan in
+    let p = c .before .before .before .before .before .before .before .before .args .plan in
     let w : leb (p .basics .power) 250 ≡ true = le-leb _ _ (c .before .before .before .before .before .if1 .left) in
     let l : leb 1 (p .interfaces .count) ≡ true = le-leb _ _ (c .before .before .before .before .if2 .left) in
     let h : leb (p .interfaces .count) interfaceRoom ≡ true = le-leb _ _ (c .before .before .before .if3 .left) in
