@@ -40,7 +40,7 @@ pub record Move : Type 0 where
 -- ---- what can happen at any stage
 
 abbrev pub at : Stage → Pipe → Pipe
-at s p = record { stage = s; stallout = p .stallout; stallin = p .stallin; request = p .request; coming = p .coming; reply = p .reply }
+at s p = record { stage = s; stallout = p .stallout; stallin = p .stallin; pending = p .pending; request = p .request; coming = p .coming; reply = p .reply }
 
 -- nothing
 abbrev pub still : Pipe → List ℕ → Move
@@ -54,7 +54,7 @@ ready p b = record { pipe = p; buffer = b; told = Nothing; packet = []; done = t
 abbrev pub stalled : Pipe → List ℕ → Move
 stalled p b =
     record {
-      pipe = record { stage = Error; stallout = true; stallin = true; request = p .request; coming = p .coming; reply = p .reply };
+      pipe = record { stage = Error; stallout = true; stallin = true; pending = p .pending; request = p .request; coming = p .coming; reply = p .reply };
       buffer = b;
       told = Stalls;
       packet = [];
@@ -70,6 +70,7 @@ fresh s q n =
       stage = s;
       stallout = false;
       stallin = false;
+      pending = record { 0 = 0 };
       request = q;
       coming = record { awaited = n; held = 0 };
       reply = record { source = Buffer; start = 0; len = 0; sent = 0 };
@@ -126,6 +127,7 @@ grown n p =
       stage = p .stage;
       stallout = p .stallout;
       stallin = p .stallin;
+      pending = p .pending;
       request = p .request;
       coming = record { awaited = p .coming .awaited; held = p .coming .held + n };
       reply = p .reply;
@@ -205,6 +207,7 @@ advanced size n p =
       stage = afterChunk size n p;
       stallout = p .stallout;
       stallin = p .stallin;
+      pending = p .pending;
       request = p .request;
       coming = p .coming;
       reply = record { source = p .reply .source; start = p .reply .start; len = p .reply .len; sent = p .reply .sent + n };
@@ -230,7 +233,7 @@ sendEmpty taken next p b = record { pipe = cond taken (at next p) p; buffer = b;
 abbrev pub awaitStatus : Pipe → List ℕ → Move
 awaitStatus p b =
     record {
-      pipe = record { stage = StatusOut; stallout = false; stallin = p .stallin; request = p .request; coming = p .coming; reply = p .reply };
+      pipe = record { stage = StatusOut; stallout = false; stallin = p .stallin; pending = p .pending; request = p .request; coming = p .coming; reply = p .reply };
       buffer = b;
       told = UnstallOut;
       packet = [];
@@ -261,6 +264,7 @@ answering source start n p =
       stage = DataIn;
       stallout = p .stallout;
       stallin = p .stallin;
+      pending = p .pending;
       request = p .request;
       coming = p .coming;
       reply = record { source = source; start = start; len = min n (p .request .length); sent = 0 };

@@ -1,5 +1,6 @@
 // Chapter 8 of USB 2.0: how the bytes of a control transfer travel through endpoint 0, stage by stage.
 // Every function is total: a pipe of any numbers, a packet, a book or a room of any length gets an answer.
+use control::BusAddress;
 use control::Direction;
 use control::Parsed;
 use control::Recipient;
@@ -8,7 +9,7 @@ use control::RequestType;
 ghost use mathlib.Core.Path.{_≡_};
 ghost use mathlib.Core.Bool.{cond};
 ghost use mathlib.Core.List.{[], _∷_};
-ghost use Prim.Native.Nat.{_-_, _≤_, min};
+ghost use Prim.Native.Nat.{_+_, _-_, _≤_, min};
 ghost use Rattle.control_pipe.specs.Sizes.{bufferRoom};
 ghost use Rattle.common.specs.Bytes.{piece, front};
 ghost use Rattle.control_pipe.specs.Stages.{Took, Left, Sent, moved, still, ready, stalled, opened, at, fresh, idle, begun, beginOut, beginBy, setupCome, grown, filled, addPacket, addRead, endRead, badRead, outCome, written, bytesOf, chunk, afterChunk, advanced, sendChunk, sendEmpty, awaitStatus, inComplete, answering, acceptIn, acceptOut};
@@ -68,11 +69,13 @@ pub struct Coming {
     pub held: u16,
 }
 
-// Endpoint 0: its stage and its halts, the request of the last accepted SETUP, and its data.
+// What an accepted SETUP drops: endpoint 0's stage and halts, the address to take when the status stage completes (0 for none),
+// the request of the last accepted SETUP, and its data.
 pub struct Pipe {
     pub stage: Stage,
     pub stallout: bool,
     pub stallin: bool,
+    pub pending: BusAddress,
     pub request: Request,
     pub coming: Coming,
     pub reply: Reply,
@@ -101,6 +104,7 @@ impl Pipe {
             stage,
             stallout: false,
             stallin: false,
+            pending: BusAddress(0),
             request,
             coming,
             reply,
@@ -126,6 +130,7 @@ impl Pipe {
     fn at(self, stage: Stage) -> Pipe
         ensures { λ r. ⌜ r ≡ at stage self ⌝ }
     {
+        let pending = self.pending;
         let request = self.request;
         let coming = self.coming;
         let reply = self.reply;
@@ -133,13 +138,15 @@ impl Pipe {
             stage,
             stallout: self.stallout,
             stallin: self.stallin,
+            pending,
             request,
             coming,
             reply,
         }
     }
 
-    fn still(self) -> Moved
+    // Nothing happens.
+    pub fn still(self) -> Moved
         ensures { λ r. ⌜ r ≡ moved (still self []) ⌝ }
     {
         Moved {
@@ -340,10 +347,29 @@ fn left(len: u32, sent: u32) -> u32
     if len < sent { 0 } else { len - sent }
 }
 
+// n of what is left.
+fn further(len: u32, sent: u32, n: u8) -> u32
+    requires { ⌜ n ≤ len - sent ⌝ }
+    ensures { λ r. ⌜ r ≡ sent + n ⌝ }
+{
+    sent + n as u32
+}
+
 fn least(a: u32, b: u32) -> u32
     ensures { λ r. ⌜ r ≡ min a b ⌝ }
 {
     if a < b { a } else { b }
+}
+
+// Of n bytes, as many as the host asked for.
+fn wanted(n: usize, length: u16) -> u32
+    ensures { λ r. ⌜ r ≡ min n length ⌝ }
+{
+    if n < length as usize {
+        n as u32
+    } else {
+        length as u32
+    }
 }
 
 // What the bus is told of a packet of n bytes.
@@ -393,7 +419,7 @@ impl Pipe {
         ensures { λ r. ⌜ r ≡ advanced size n self ⌝ }
     {
         let mut pipe = self.at(self.after_chunk(size, n));
-        let sent = self.reply.sent + n as u32;
+        let sent = further(self.reply.len, self.reply.sent, n);
         pipe.reply.sent = sent;
         pipe
     }
@@ -498,10 +524,10 @@ impl Pipe {
 
 // How a complete request is answered.
 impl Pipe {
-    fn answering(self, source: Source, start: u32, n: u32) -> Pipe
+    fn answering(self, source: Source, start: u32, n: usize) -> Pipe
         ensures { λ r. ⌜ r ≡ answering source start n self ⌝ }
     {
-        let len = least(n, self.request.length as u32);
+        let len = wanted(n, self.request.length);
         let mut pipe = self.at(Stage::DataIn);
         let reply = Reply {
             source,
@@ -518,7 +544,7 @@ impl Pipe {
         self,
         source: Source,
         start: u32,
-        n: u32,
+        n: usize,
         size: u8,
         taken: bool,
         buffer: &[u8; BUFFER],
