@@ -298,7 +298,17 @@ fn happen<'a>(
         Event::Suspend => plain(suspended(live), resumed, Action::Suspend),
         Event::Resume => plain(live, resumed, Action::Nothing),
         Event::Data(a) => data_come(
-            plan, ids, lens, units, live, resumed, a, packet, buffer, book, room,
+            plan,
+            ids,
+            lens,
+            units,
+            live,
+            resumed,
+            a,
+            packet,
+            buffer,
+            book,
+            room,
         ),
     }
 }

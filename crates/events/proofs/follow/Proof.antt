@@ -1,53 +1,34 @@
+use Rattle.answers.specs.Answers.{answer, parts}
+use Rattle.events.proofs.Laws.{answer-followed, tick-followed}
+use Rattle.events.specs.Events.{followed}
+use Rattle.effects.proofs.Laws.{front-nil}
+use denote.Ref.{now}
+use mathlib.Core.Path.{refl, sym, _∙_}
 use borrow.Author.Needs.{needs}
 use Rattle.events.proofs.follow.Statement.{statement}
 use Rattle.events.proofs.follow.Tie as tie
-use Rattle.events.proofs.follow.Reads as reads
-use Rattle.events.proofs.follow.Lts as lts
-use Rattle.effects.proofs.set_out.Reads as set-out-reads
-use Rattle.effects.proofs.tick.Reads as tick-reads
-use Rattle.events.proofs.judge.Reads as judge-reads
 
--- src/lib.rt:117:13
-judge-requires : tie.Need-judge-requires
-judge-requires c κs = search needs
-
--- src/lib.rt:118:9
-set-out-requires : tie.Need-set-out-requires
-set-out-requires c κs = search needs
-
--- src/lib.rt:118:9
-same-length : tie.Need-same-length
-same-length c = search needs
-
--- src/lib.rt:118:9
 returns : tie.Need-returns
-returns c = ?
+unfolding followed
+returns c = let a = c .before .before .before .before .before .before .before .before .before .before .args in rw (c .before .before .before .before .before .before .before .if1 .taken) (answer-followed (answer (parts (a .plan) (now (a .ids)) (now (a .lens)) (now (a .units))) (a .live .kept) (a .live .pipe) (a .live .book)) _ _ (a .taken) (now (a .book)) (a .live) (now (a .buffer)) (now (a .room)) (c .before .before .before .before .before .judge .ensures .value) (c .before .before .before .before .before .judge .ensures .buffer) (c .before .before .set-out .ensures))
 
--- src/lib.rt:121:9
-tick-requires : tie.Need-tick-requires
-tick-requires c κs = search needs
-
--- src/lib.rt:121:9
-same-length-2 : tie.Need-same-length-2
-same-length-2 c = search needs
-
--- src/lib.rt:121:9
 returns-2 : tie.Need-returns-2
-returns-2 c = ?
+unfolding followed
+returns-2 c = let a = c .before .before .before .before .before .before .before .before .before .args in rw (c .before .before .before .before .before .before .if1 .left, c .before .before .before .before .before .if2 .taken) (tick-followed _ _ (a .taken) (now (a .book)) (a .live) (now (a .buffer)) (now (a .room)) (c .before .before .tick .ensures))
 
--- src/lib.rt:99:1
 returns-3 : tie.Need-returns-3
-returns-3 c = ?
+unfolding followed
+returns-3 c = rw (c .before .if1 .left, c .if2 .left) (record { value = refl; buffer = refl; room = front-nil _ })
 
 pub follow-spec : {M : Type 1} → statement M
 follow-spec =
     tie.close
     (tie.spec
-    judge-requires
-    set-out-requires
-    same-length
+    (λ c κs. search needs)
+    (λ c κs. search needs)
+    (λ c. search needs)
     returns
-    tick-requires
-    same-length-2
+    (λ c κs. search needs)
+    (λ c. search needs)
     returns-2
     returns-3)
