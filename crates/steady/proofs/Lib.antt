@@ -1,1 +1,4 @@
+pub mod Actions
+pub mod Keeps
+pub mod Kept
 pub mod Packets

@@ -1,11 +1,10 @@
 -- No packet is longer than the packet size. Assumes nothing.
-use Prim.Native.Nat.{ℕ, _+_, _-_, _≤_, min}
-use mathlib.Core.Bool.{Bool, true, false, cond, not, _&&_}
-use mathlib.Core.Path.{_≡_, refl}
-use mathlib.Core.List.{List, [], _∷_}
+use Prim.Native.Nat.{ℕ, _+_, _-_, _≤_}
+use mathlib.Core.Bool.{Bool, true, false, not, _&&_}
+use mathlib.Core.List.{List, []}
 use native.Mathlib.Omega.{arith}
 use lib.Dec.{eqb}
-use lib.ListN.{length, take, drop, length-take}
+use lib.ListN.{length, drop, length-take}
 use Rattle.common.specs.Bytes.{inside, part, piece}
 use Rattle.common.proofs.Laws.{cond-elim}
 use Rattle.record.specs.declared.Record.{Record}
@@ -13,14 +12,13 @@ use Rattle.control_pipe.specs.declared.Stage.{Stage}
 use Rattle.control_pipe.specs.declared.Stage.the-variants.{Idle, DataIn, DataInZlp, DataInLast, CompleteIn, StatusOut, CompleteOut, DataOut, StatusIn, Error}
 use Rattle.control_pipe.specs.declared.Source.the-variants.{Buffer, Book}
 use Rattle.control_pipe.specs.declared.Pipe.{Pipe}
-use Rattle.control_pipe.specs.Stages.{Move, sendChunk, inAt, inComplete, chunk, bytesOf, answering}
+use Rattle.control_pipe.specs.Stages.{sendChunk, inAt, inComplete, chunk, bytesOf, answering}
 use Rattle.answers.specs.declared.Verdict.{Verdict}
 use Rattle.answers.specs.declared.Verdict.the-variants.{Stall, Bytes, Tiles, Accept}
 use Rattle.answers.specs.Answers.{answer, verdictOf, bufferOf}
 use Rattle.live.specs.declared.Live.{Live}
 use Rattle.live.specs.Live.{awake}
 use Rattle.effects.specs.Effects.{Second, withPipe, setOut, ticked}
-use Rattle.events.specs.declared.Arrival.{Arrival}
 use Rattle.events.specs.declared.Event.{Event}
 use Rattle.events.specs.declared.Event.the-variants.{Nothing, Reset, Suspend, Resume, Data}
 use Rattle.events.specs.Events.{Done, arrived, odd, takenBy, followed, dataCome, dull, woken, happens, handled}

@@ -1,22 +1,26 @@
 -- What the theorems of proofs/ count.
-use Prim.Native.Nat.{ℕ, suc}
+use Prim.Native.Nat.{ℕ, _+_}
 use mathlib.Core.List.{List, [], _∷_}
 use Rattle.effects.specs.declared.Action.{Action}
 use Rattle.effects.specs.declared.Action.the-variants.{Nothing, Resume, Suspend, Reset, UnstallOut, UnstallIn, StallOut, StallIn, Halt, Unhalt, Address, Write, Refused}
 
--- the packets that the bus is given, taken or refused
+-- 1 for a packet that the bus is given, taken or refused
+abbrev pub isWrite : Action → ℕ
+isWrite Nothing = 0
+isWrite Resume = 0
+isWrite Suspend = 0
+isWrite Reset = 0
+isWrite UnstallOut = 0
+isWrite UnstallIn = 0
+isWrite StallOut = 0
+isWrite StallIn = 0
+isWrite (Halt e) = 0
+isWrite (Unhalt e) = 0
+isWrite (Address a) = 0
+isWrite (Write n) = 1
+isWrite (Refused n) = 1
+
+-- how many packets the bus is given
 unfoldable pub writes : List Action → ℕ
 writes [] = 0
-writes (Nothing ∷ l) = writes l
-writes (Resume ∷ l) = writes l
-writes (Suspend ∷ l) = writes l
-writes (Reset ∷ l) = writes l
-writes (UnstallOut ∷ l) = writes l
-writes (UnstallIn ∷ l) = writes l
-writes (StallOut ∷ l) = writes l
-writes (StallIn ∷ l) = writes l
-writes (Halt e ∷ l) = writes l
-writes (Unhalt e ∷ l) = writes l
-writes (Address a ∷ l) = writes l
-writes (Write n ∷ l) = suc (writes l)
-writes (Refused n ∷ l) = suc (writes l)
+writes (a ∷ l) = isWrite a + writes l

@@ -1,0 +1,516 @@
+-- No step leaves a state that refusal 9 names. Assumes nothing.
+use Prim.Native.Nat.{ℕ, _+_, _-_, _/_, _%_, _≤_, _<_}
+use mathlib.Core.Bool.{Bool, true, false, cond, not, _&&_, false≢true}
+use mathlib.Core.Path.{_≡_, refl}
+use mathlib.Core.List.{List}
+use mathlib.Core.Option.{Option, some, none}
+use native.Mathlib.Omega.{arith}
+use borrow.Author.Tests.{le-leb, leb-true, ltb-true, eqb-true}
+use lib.Dec.{eqb, leb, ltb}
+use lib.ListN.{length}
+use Rattle.common.specs.Lists.{between}
+use Rattle.common.proofs.Laws.{cond-elim, and-left, and-right}
+use Rattle.control.specs.declared.BusAddress.{BusAddress}
+use Rattle.control.specs.declared.EndpointAddress.{EndpointAddress}
+use Rattle.control.specs.declared.Direction.{Direction}
+use Rattle.control.specs.declared.Direction.the-variants.{In, Out}
+use Rattle.control.specs.declared.RequestType.{RequestType}
+use Rattle.control.specs.declared.RequestType.the-variants.{Standard, Class, Vendor, Reserved as ReservedType}
+use Rattle.control.specs.declared.Recipient.{Recipient}
+use Rattle.control.specs.declared.Recipient.the-variants.{Device, Interface, Endpoint, Other, Reserved}
+use Rattle.control.specs.declared.Request.{Request}
+use Rattle.control.specs.declared.Parsed.{Parsed}
+use Rattle.control.specs.declared.Parsed.the-variants.{Good, Refused as BadSetup}
+use Rattle.control.specs.Setup.{parsed}
+use Rattle.record.specs.declared.Record.{Record}
+use Rattle.limits.specs.Limits.{lowest}
+use Rattle.descriptor.specs.Device.{deviceBytes}
+use Rattle.configuration.specs.Configuration.{configurationBytes}
+use Rattle.strings.specs.Strings.{stringOf}
+use Rattle.control_pipe.specs.declared.Stage.{Stage}
+use Rattle.control_pipe.specs.declared.Stage.the-variants.{Idle, DataIn, DataInZlp, DataInLast, CompleteIn, StatusOut, CompleteOut, DataOut, StatusIn, Error}
+use Rattle.control_pipe.specs.declared.Read.{Read}
+use Rattle.control_pipe.specs.declared.Read.the-variants.{Packet, Block, Fault}
+use Rattle.control_pipe.specs.declared.Source.{Source}
+use Rattle.control_pipe.specs.declared.Source.the-variants.{Buffer, Book}
+use Rattle.control_pipe.specs.declared.Coming.{Coming}
+use Rattle.control_pipe.specs.declared.Reply.{Reply}
+use Rattle.control_pipe.specs.declared.Pipe.{Pipe}
+use Rattle.control_pipe.specs.Sizes.{bufferRoom}
+use Rattle.control_pipe.specs.Stages.{Move, at, fresh, idle, beginOut, beginBy, begun, setupCome, addPacket, addRead, endRead, badRead, outAt, outCome, chunk, advanced, sendChunk, inAt, inComplete, answering}
+use Rattle.requests.specs.Sizes.{tileSize}
+use Rattle.requests.specs.declared.State.{State}
+use Rattle.requests.specs.declared.State.the-variants.{Default, Addressed, Configured, Suspend as Suspended}
+use Rattle.requests.specs.declared.Kept.{Kept}
+use Rattle.requests.specs.declared.Effect.{Effect}
+use Rattle.requests.specs.declared.Effect.the-variants.{Nothing as NoEffect, Wakeup, Halt, Unhalt, Address, Turn}
+use Rattle.requests.specs.declared.Decision.{Decision}
+use Rattle.requests.specs.declared.Decision.the-variants.{Stall as StallIt, Status, Byte, Describe, Tiles as TilesFrom, Accept as AcceptIt}
+use Rattle.requests.specs.Requests.{deviceIn, interfaceIn, endpointIn, standardIn, tilesFrom, tilesIn, vendorIn, decideIn, setAddress, deconfigured, setConfiguration, feature, deviceOut, interfaceOut, endpointOut, standardOut, decideOut, decideBy, decided, endpointOf}
+use Rattle.answers.specs.declared.Verdict.{Verdict}
+use Rattle.answers.specs.declared.Verdict.the-variants.{Stall, Bytes, Tiles, Accept}
+use Rattle.answers.specs.Answers.{Answer, descriptorOf, told, described, answerOf, answer, verdictOf, bufferOf}
+use Rattle.answers.proofs.Laws.{device-fits, configuration-fits, string-fits}
+use Rattle.live.specs.declared.Live.{Live}
+use Rattle.live.specs.Live.{bookFine, comingFine, sourceRoom, replyFine, pipeFine, awake, stateFine, liveFine}
+use Rattle.effects.specs.Effects.{Second, withPipe, halting, awaiting, effected, setOut, ticked}
+use Rattle.events.specs.declared.Arrival.{Arrival}
+use Rattle.events.specs.declared.Event.{Event}
+use Rattle.events.specs.declared.Event.the-variants.{Nothing, Reset, Suspend, Resume, Data}
+use Rattle.events.specs.Events.{Done, odd, arrived, takenBy, followed, dataCome, stateAfter, woken, happens, dull, handled}
+
+-- ---- a good pipe, as facts
+
+both : (a b : Bool) → a ≡ true → b ≡ true → a && b ≡ true
+both true b e f = f
+both false b e f = e
+
+-- of OUT data, IN answer and pending address, beside a book of so many bytes
+record Fits (c : Coming) (a : Reply) (pending : BusAddress) (book : ℕ) : Type 0 where
+  awaited : c .awaited ≤ bufferRoom
+  held : c .held ≤ bufferRoom
+  sent : a .sent ≤ a .len
+  inside : a .start + a .len ≤ sourceRoom (a .source) book
+  address : pending .0 ≤ 127
+
+abbrev FitsOf : ℕ → Pipe → Type 0
+FitsOf book p = Fits (p .coming) (p .reply) (p .pending) book
+
+pipe-facts : (p : Pipe) (book : ℕ) → pipeFine p book ≡ true → FitsOf book p
+unfolding pipeFine comingFine replyFine
+pipe-facts p book e =
+    let c = p .coming in
+    let a = p .reply in
+    let x = and-left (comingFine c && replyFine a book) (leb (p .pending .0) 127) e in
+    let y = and-left (comingFine c) (replyFine a book) x in
+    let z = and-right (comingFine c) (replyFine a book) x in
+    record {
+      awaited = leb-true _ _ (and-left (leb (c .awaited) bufferRoom) (leb (c .held) bufferRoom) y);
+      held = leb-true _ _ (and-right (leb (c .awaited) bufferRoom) (leb (c .held) bufferRoom) y);
+      sent = leb-true _ _ (and-left (leb (a .sent) (a .len)) (leb (a .start + a .len) (sourceRoom (a .source) book)) z);
+      inside = leb-true _ _ (and-right (leb (a .sent) (a .len)) (leb (a .start + a .len) (sourceRoom (a .source) book)) z);
+      address = leb-true _ _ (and-right (comingFine c && replyFine a book) (leb (p .pending .0) 127) e);
+    }
+
+pipe-fine : (p : Pipe) (book : ℕ) → FitsOf book p → pipeFine p book ≡ true
+unfolding pipeFine comingFine replyFine
+pipe-fine p book f =
+    both _ _ (both _ _ (both _ _ (le-leb _ _ (f .awaited)) (le-leb _ _ (f .held))) (both _ _ (le-leb _ _ (f .sent)) (le-leb _ _ (f .inside)))) (le-leb _ _ (f .address))
+
+fresh-fits : (book : ℕ) (t : Stage) (q : Request) (n : ℕ) → n ≤ bufferRoom → FitsOf book (fresh t q n)
+fresh-fits book t q n l = record { awaited = l; held = omega arith; sent = omega arith; inside = omega arith; address = omega arith }
+
+-- ---- the first half of an event
+
+module _ (book : ℕ) where
+  abbrev Holds : Move → Type 0
+  Holds m = FitsOf book (m .pipe)
+
+  out-begun : (q : Request) → Holds (beginOut q)
+  unfolding beginOut
+  out-begun q =
+      let none : 0 ≤ bufferRoom = omega arith in
+      cond-elim Holds (eqb (q .length) 0) _ _ (λ e. fresh-fits book CompleteOut q 0 none)
+      (λ e. cond-elim Holds (leb (q .length) bufferRoom) _ _ (λ e. fresh-fits book DataOut q (q .length) (leb-true _ _ e)) (λ e. fresh-fits book Error q 0 none))
+
+  by-begun : (d : Direction) (q : Request) → Holds (beginBy d q)
+  unfolding beginBy
+  by-begun Out q = out-begun q
+  by-begun In q = fresh-fits book CompleteIn q 0 (let none : 0 ≤ bufferRoom = omega arith in none)
+
+  module _ (p : Pipe) (b : List ℕ) (f : FitsOf book p) where
+    begun-holds : (s : Parsed) → Holds (begun s p b)
+    unfolding begun
+    begun-holds (Good q) = by-begun (q .direction) q
+    begun-holds (BadSetup why) = f
+
+    setup-holds : (r : Read) (s : List ℕ) → Holds (setupCome r s p b)
+    unfolding setupCome
+    setup-holds Packet s = begun-holds (parsed s)
+    setup-holds Block s = f
+    setup-holds Fault s = f
+
+    packet-holds : (s : List ℕ) → Holds (addPacket s p b)
+    unfolding addPacket
+    packet-holds s =
+        cond-elim Holds (leb (length s) (bufferRoom - p .coming .held)) _ _
+        (λ e. let l : length s ≤ bufferRoom - p .coming .held = leb-true _ _ e in
+        record { awaited = f .awaited; held = omega (arith, l, f .held); sent = f .sent; inside = f .inside; address = f .address })
+        (λ e. f)
+
+    add-holds : (r : Read) (s : List ℕ) → Holds (addRead r s p b)
+    unfolding addRead
+    add-holds Packet s = packet-holds s
+    add-holds Block s = f
+    add-holds Fault s = f
+
+    end-holds : (r : Read) (n : ℕ) → Holds (endRead r n p b)
+    unfolding endRead
+    end-holds Packet n = cond-elim (FitsOf book) (eqb n 0) (at Idle p) p (λ e. f) (λ e. f)
+    end-holds Block n = f
+    end-holds Fault n = f
+
+    bad-holds : (r : Read) (n : ℕ) → Holds (badRead r n p b)
+    unfolding badRead
+    bad-holds Packet n = cond-elim Holds (eqb n 0) _ _ (λ e. f) (λ e. f)
+    bad-holds Block n = f
+    bad-holds Fault n = f
+
+    out-holds : (t : Stage) (r : Read) (s : List ℕ) → Holds (outAt t r s p b)
+    unfolding outAt
+    out-holds Idle r s = bad-holds r (length s)
+    out-holds DataIn r s = end-holds r (length s)
+    out-holds DataInZlp r s = end-holds r (length s)
+    out-holds DataInLast r s = end-holds r (length s)
+    out-holds CompleteIn r s = bad-holds r (length s)
+    out-holds StatusOut r s = end-holds r (length s)
+    out-holds CompleteOut r s = bad-holds r (length s)
+    out-holds DataOut r s = add-holds r s
+    out-holds StatusIn r s = bad-holds r (length s)
+    out-holds Error r s = bad-holds r (length s)
+
+    arrived-holds : (a : Arrival) (s : List ℕ) → Holds (arrived a s p b)
+    unfolding arrived outCome
+    arrived-holds a s =
+        cond-elim Holds (odd (a .setup)) _ _ (λ e. setup-holds (a .read) s)
+        (λ e. cond-elim Holds (odd (a .out)) _ _ (λ e. out-holds (p .stage) (a .read) s) (λ e. f))
+
+    -- ---- what the pipe sends
+
+    chunk-holds : (size : ℕ) (taken : Bool) (bytes : List ℕ) → Holds (sendChunk size taken bytes p b)
+    unfolding sendChunk advanced
+    chunk-holds size taken bytes =
+        cond-elim (FitsOf book) taken (advanced size (chunk size (p .reply)) p) p
+        (λ e. record { awaited = f .awaited; held = f .held; sent = omega (arith, f .sent); inside = f .inside; address = f .address })
+        (λ e. f)
+
+    empty-holds : (taken : Bool) (t : Stage) → FitsOf book (cond taken (at t p) p)
+    empty-holds taken t = cond-elim (FitsOf book) taken (at t p) p (λ e. f) (λ e. f)
+
+    in-holds : (t : Stage) (size : ℕ) (taken : Bool) (bytes : List ℕ) → Holds (inAt t size taken bytes p b)
+    unfolding inAt
+    in-holds Idle size taken bytes = f
+    in-holds DataIn size taken bytes = chunk-holds size taken bytes
+    in-holds DataInZlp size taken bytes = empty-holds taken DataInLast
+    in-holds DataInLast size taken bytes = f
+    in-holds CompleteIn size taken bytes = f
+    in-holds StatusOut size taken bytes = f
+    in-holds CompleteOut size taken bytes = f
+    in-holds DataOut size taken bytes = f
+    in-holds StatusIn size taken bytes = f
+    in-holds Error size taken bytes = f
+
+    -- an answer inside its source
+    answering-fits : (source : Source) (start n : ℕ) → start + n ≤ sourceRoom source book → FitsOf book (answering source start n p)
+    answering-fits source start n l = record { awaited = f .awaited; held = f .held; sent = omega arith; inside = omega (arith, l); address = f .address }
+
+-- ---- what chapter 9 decides
+
+-- an address that is pending is 127 at most, and no request leads to Suspend
+abbrev Allowed : Effect → Type 0
+Allowed NoEffect = Unit {0}
+Allowed (Wakeup on) = Unit {0}
+Allowed (Halt e) = Unit {0}
+Allowed (Unhalt e) = Unit {0}
+Allowed (Address a) = a .0 ≤ 127
+Allowed (Turn s) = awake s ≡ true
+
+-- tiles start inside the book
+abbrev Fair : ℕ → Decision → Type 0
+Fair book StallIt = Unit {0}
+Fair book (Status n) = Unit {0}
+Fair book (Byte n) = Unit {0}
+Fair book Describe = Unit {0}
+Fair book (TilesFrom start) = start ≤ book
+Fair book (AcceptIt e) = Allowed e
+
+module _ (book : ℕ) where
+  device-in : (k : Kept) (code : ℕ) → Fair book (deviceIn k code)
+  unfolding deviceIn
+  device-in k code =
+      cond-elim (Fair book) (eqb code 0) _ _ (λ e. tt)
+      (λ e. cond-elim (Fair book) (eqb code 6) _ _ (λ e. tt) (λ e. cond-elim (Fair book) (eqb code 8) _ _ (λ e. tt) (λ e. tt)))
+
+  interface-in : (code index : ℕ) → Fair book (interfaceIn code index)
+  unfolding interfaceIn
+  interface-in code index =
+      cond-elim (Fair book) (eqb code 0) _ _ (λ e. tt)
+      (λ e. cond-elim (Fair book) (eqb code 10) _ _ (λ e. cond-elim (Fair book) (leb index 255) _ _ (λ e. tt) (λ e. tt)) (λ e. tt))
+
+  endpoint-in : (k : Kept) (p : Pipe) (code index : ℕ) → Fair book (endpointIn k p code index)
+  unfolding endpointIn
+  endpoint-in k p code index = cond-elim (Fair book) (eqb code 0) _ _ (λ e. tt) (λ e. tt)
+
+  standard-in : (w : Recipient) (k : Kept) (p : Pipe) (q : Request) → Fair book (standardIn w k p q)
+  unfolding standardIn
+  standard-in Device k p q = device-in k (q .request)
+  standard-in Interface k p q = interface-in (q .request) (q .index)
+  standard-in Endpoint k p q = endpoint-in k p (q .request) (q .index)
+  standard-in Other k p q = tt
+  standard-in Reserved k p q = tt
+
+  tiles-from : (n : ℕ) → Fair book (tilesFrom (record { 0 = n }) book)
+  unfolding tilesFrom
+  tiles-from n = cond-elim (Fair book) (ltb n (book / tileSize)) _ _ (λ e. let l : n < book / 16 = ltb-true _ _ e in omega arith) (λ e. tt)
+
+  tiles-in : (q : Request) → Fair book (tilesIn q book)
+  unfolding tilesIn
+  tiles-in q = cond-elim (Fair book) (eqb (q .request) 1 && eqb (q .index) 0) _ _ (λ e. tiles-from (q .value)) (λ e. tt)
+
+  vendor-in : (w : Recipient) (q : Request) → Fair book (vendorIn w q book)
+  unfolding vendorIn
+  vendor-in Device q = tiles-in q
+  vendor-in Interface q = tt
+  vendor-in Endpoint q = tt
+  vendor-in Other q = tt
+  vendor-in Reserved q = tt
+
+  decide-in : (t : RequestType) (k : Kept) (p : Pipe) (q : Request) → Fair book (decideIn t k p q book)
+  unfolding decideIn
+  decide-in Standard k p q = standard-in (q .recipient) k p q
+  decide-in Class k p q = tt
+  decide-in Vendor k p q = vendor-in (q .recipient) q
+  decide-in ReservedType k p q = tt
+
+  set-address : (value : ℕ) → Fair book (setAddress value)
+  unfolding setAddress
+  set-address value = cond-elim (Fair book) (between 1 127 value) _ _ (λ e. leb-true value 127 (and-right (leb 1 value) (leb value 127) e)) (λ e. tt)
+
+  deconfigured-allowed : (s : State) → Allowed (deconfigured s)
+  deconfigured-allowed Default = tt
+  deconfigured-allowed Addressed = refl
+  deconfigured-allowed Configured = refl
+  deconfigured-allowed Suspended = refl
+
+  set-configuration : (s : State) (value : ℕ) → Fair book (setConfiguration s value)
+  unfolding setConfiguration
+  set-configuration s value =
+      cond-elim (Fair book) (eqb value 1) _ _ (λ e. refl) (λ e. cond-elim (Fair book) (eqb value 0) _ _ (λ e. deconfigured-allowed s) (λ e. tt))
+
+  feature-fair : (n value : ℕ) (e : Effect) → Allowed e → Fair book (feature n value e)
+  feature-fair n value e a = cond-elim (Fair book) (eqb value n) _ _ (λ t. a) (λ t. tt)
+
+  device-out : (s : State) (code value : ℕ) → Fair book (deviceOut s code value)
+  unfolding deviceOut
+  device-out s code value =
+      cond-elim (Fair book) (eqb code 1) _ _ (λ e. feature-fair 1 value (Wakeup false) tt)
+      (λ e. cond-elim (Fair book) (eqb code 3) _ _ (λ e. feature-fair 1 value (Wakeup true) tt)
+      (λ e. cond-elim (Fair book) (eqb code 5) _ _ (λ e. set-address value)
+      (λ e. cond-elim (Fair book) (eqb code 9) _ _ (λ e. set-configuration s value) (λ e. tt))))
+
+  interface-out : (code value index : ℕ) → Fair book (interfaceOut code value index)
+  unfolding interfaceOut
+  interface-out code value index = cond-elim (Fair book) (eqb code 11 && eqb value 0 && leb index 255) _ _ (λ e. tt) (λ e. tt)
+
+  endpoint-out : (code value index : ℕ) → Fair book (endpointOut code value index)
+  unfolding endpointOut
+  endpoint-out code value index =
+      cond-elim (Fair book) (eqb code 1) _ _ (λ e. feature-fair 0 value (Unhalt (endpointOf index)) tt)
+      (λ e. cond-elim (Fair book) (eqb code 3) _ _ (λ e. feature-fair 0 value (Halt (endpointOf index)) tt) (λ e. tt))
+
+  standard-out : (w : Recipient) (k : Kept) (q : Request) → Fair book (standardOut w k q)
+  unfolding standardOut
+  standard-out Device k q = device-out (k .state) (q .request) (q .value)
+  standard-out Interface k q = interface-out (q .request) (q .value) (q .index)
+  standard-out Endpoint k q = endpoint-out (q .request) (q .value) (q .index)
+  standard-out Other k q = tt
+  standard-out Reserved k q = tt
+
+  decide-out : (t : RequestType) (k : Kept) (q : Request) → Fair book (decideOut t k q)
+  unfolding decideOut
+  decide-out Standard k q = standard-out (q .recipient) k q
+  decide-out Class k q = tt
+  decide-out Vendor k q = tt
+  decide-out ReservedType k q = tt
+
+  decide-by : (d : Direction) (k : Kept) (p : Pipe) (q : Request) → Fair book (decideBy d k p q book)
+  unfolding decideBy
+  decide-by In k p q = decide-in (q .kind) k p q
+  decide-by Out k p q = decide-out (q .kind) k q
+
+  decided-fair : (k : Kept) (p : Pipe) → Fair book (decided k p book)
+  unfolding decided
+  decided-fair k p = decide-by (p .request .direction) k p (p .request)
+
+-- ---- .. and tells
+
+-- bytes that are told fit in the buffer
+abbrev pub Sound : ℕ → Verdict → Type 0
+Sound book Stall = Unit {0}
+Sound book (Bytes n) = n ≤ bufferRoom
+Sound book (Tiles start) = start ≤ book
+Sound book (Accept e) = Allowed e
+
+module _ (book : ℕ) (r : Record) where
+  abbrev SoundOf : Answer → Type 0
+  SoundOf a = Sound book (verdictOf a)
+
+  told-sound : (o : Option (List ℕ)) → ((b : List ℕ) → o ≡ some b → length b ≤ bufferRoom) → SoundOf (told o)
+  told-sound none f = tt
+  told-sound (some b) f = f b refl
+
+  module _ (q : Request) where
+    descriptor-sound : (kind index language : ℕ) → lowest (r .plan) (r .ids) (r .lens) ≡ 0 → SoundOf (told (descriptorOf r kind index language))
+    unfolding descriptorOf
+    descriptor-sound kind index language z =
+        let P : Option (List ℕ) → Type 0 = λ o. SoundOf (told o) in
+        cond-elim P (eqb kind 1) _ _ (λ e. told-sound (some (deviceBytes (r .plan) (r .lens))) (device-fits r q z))
+        (λ e. cond-elim P (eqb kind 2) _ _ (λ e. told-sound (some (configurationBytes (r .plan))) (configuration-fits r q z))
+        (λ e. cond-elim P (eqb kind 3) _ _
+        (λ e. told-sound (stringOf (r .plan .languages) (r .ids) (r .lens) (r .units) index language) (string-fits r q z index language))
+        (λ e. tt)))
+
+    described-sound : SoundOf (described r q)
+    unfolding described
+    described-sound =
+        let n = lowest (r .plan) (r .ids) (r .lens) in
+        cond-elim SoundOf (eqb n 0) _ _ (λ e. descriptor-sound (q .value / 256) (q .value % 256) (q .index) (eqb-true n 0 e)) (λ e. tt)
+
+  answer-of-sound : (q : Request) (d : Decision) → Fair book d → SoundOf (answerOf r q d)
+  unfolding answerOf
+  answer-of-sound q StallIt f = tt
+  answer-of-sound q (Status n) f = let l : 2 ≤ bufferRoom = omega arith in l
+  answer-of-sound q (Byte n) f = let l : 1 ≤ bufferRoom = omega arith in l
+  answer-of-sound q Describe f = described-sound q
+  answer-of-sound q (TilesFrom start) f = f
+  answer-of-sound q (AcceptIt e) f = f
+
+  pub answer-sound : (k : Kept) (p : Pipe) → SoundOf (answer r k p book)
+  unfolding answer
+  answer-sound k p = answer-of-sound (p .request) (decided k p book) (decided-fair book k p)
+
+-- ---- the second half of an event
+
+-- a good device that is awake, as facts
+record Awake (l : Live) : Type 0 where
+  built : l .built ≡ true
+  book : bookFine (l .book) ≡ true
+  state : awake (l .kept .state) ≡ true
+  pipe : FitsOf (l .book) (l .pipe)
+
+abbrev AwakeOf : Second → Type 0
+AwakeOf h = Awake (h .live)
+
+module _ (l : Live) (w : Awake l) where
+  with-pipe : (p : Pipe) → FitsOf (l .book) p → Awake (withPipe p l)
+  with-pipe p f = record { built = w .built; book = w .book; state = w .state; pipe = f }
+
+  halting-keeps : (e : EndpointAddress) (on : Bool) → Awake (halting e on l)
+  unfolding halting
+  halting-keeps e on =
+      cond-elim Awake (eqb (e .0 % 16) 0) _ _
+      (λ t. cond-elim Awake (ltb (e .0) 128) _ _
+      (λ t. record { built = w .built; book = w .book; state = w .state; pipe = w .pipe })
+      (λ t. record { built = w .built; book = w .book; state = w .state; pipe = w .pipe }))
+      (λ t. record { built = w .built; book = w .book; state = w .state; pipe = w .pipe })
+
+  awaiting-keeps : (a : BusAddress) (quirk : Bool) → a .0 ≤ 127 → Awake (awaiting a quirk l)
+  unfolding awaiting
+  awaiting-keeps a true h = record { built = w .built; book = w .book; state = refl; pipe = w .pipe }
+  awaiting-keeps a false h =
+      let f = w .pipe in
+      record {
+        built = w .built;
+        book = w .book;
+        state = w .state;
+        pipe = record { awaited = f .awaited; held = f .held; sent = f .sent; inside = f .inside; address = h };
+      }
+
+  effected-keeps : (e : Effect) (quirk : Bool) → Allowed e → Awake (effected e quirk l)
+  unfolding effected
+  effected-keeps NoEffect quirk a = w
+  effected-keeps (Wakeup on) quirk a = record { built = w .built; book = w .book; state = w .state; pipe = w .pipe }
+  effected-keeps (Halt e) quirk a = halting-keeps e true
+  effected-keeps (Unhalt e) quirk a = halting-keeps e false
+  effected-keeps (Address x) quirk a = awaiting-keeps x quirk a
+  effected-keeps (Turn s) quirk a = record { built = w .built; book = w .book; state = a; pipe = w .pipe }
+
+module _ (size : ℕ) (quirk taken : Bool) (bytes : List ℕ) (l : Live) (b : List ℕ) (w : Awake l) where
+  set-keeps : (v : Verdict) → Sound (l .book) v → AwakeOf (setOut v size quirk taken bytes l b)
+  unfolding setOut
+  set-keeps Stall s = with-pipe l w _ (w .pipe)
+  set-keeps (Bytes n) s =
+      let p = answering Buffer 0 n (l .pipe) in
+      with-pipe l w _ (chunk-holds (l .book) p b (answering-fits (l .book) (l .pipe) b (w .pipe) Buffer 0 n (omega (arith, s))) size taken bytes)
+  set-keeps (Tiles start) s =
+      let p = answering Book start (l .book - start) (l .pipe) in
+      with-pipe l w _ (chunk-holds (l .book) p b (answering-fits (l .book) (l .pipe) b (w .pipe) Book start (l .book - start) (omega (arith, s))) size taken bytes)
+  set-keeps (Accept e) s =
+      let k = effected e quirk l in
+      let x = effected-keeps l w e quirk s in
+      with-pipe k x _ (empty-holds (k .book) (k .pipe) b (x .pipe) taken StatusIn)
+
+  tick-keeps : AwakeOf (ticked size quirk taken bytes l b)
+  unfolding ticked inComplete
+  tick-keeps =
+      let m = inAt (l .pipe .stage) size taken bytes (l .pipe) b in
+      let f = in-holds (l .book) (l .pipe) b (w .pipe) (l .pipe .stage) size taken bytes in
+      cond-elim AwakeOf (m .done && not quirk && not (eqb (m .pipe .pending .0) 0)) _ _
+      (λ e. record {
+        built = w .built;
+        book = w .book;
+        state = refl;
+        pipe = record { awaited = f .awaited; held = f .held; sent = f .sent; inside = f .inside; address = omega arith };
+      })
+      (λ e. with-pipe l w (m .pipe) f)
+
+follow-keeps : (r : Record) (complete tick taken : Bool) (bytes : List ℕ) (l : Live) (b : List ℕ) → Awake l → AwakeOf (followed r complete tick taken bytes l b)
+unfolding followed
+follow-keeps r true tick taken bytes l b w =
+    let a = answer r (l .kept) (l .pipe) (l .book) in
+    set-keeps (r .plan .basics .packet) (r .plan .basics .quirk) taken bytes l (bufferOf a b) w (verdictOf a) (answer-sound (l .book) r (l .kept) (l .pipe))
+follow-keeps r false true taken bytes l b w = tick-keeps (r .plan .basics .packet) (r .plan .basics .quirk) taken bytes l b w
+follow-keeps r false false taken bytes l b w = w
+
+-- ---- the whole event
+
+fine : (l : Live) → l .built ≡ true → bookFine (l .book) ≡ true → stateFine (l .kept .state) (l .before) ≡ true → FitsOf (l .book) (l .pipe) → liveFine l ≡ true
+unfolding liveFine
+fine l x y z f = both _ _ (both _ _ (both _ _ x y) z) (pipe-fine (l .pipe) (l .book) f)
+
+awake-fine : (s before : State) → awake s ≡ true → stateFine s before ≡ true
+awake-fine Default before e = refl
+awake-fine Addressed before e = refl
+awake-fine Configured before e = refl
+awake-fine Suspended before e = absurd (false≢true e)
+
+awake-live : (l : Live) → Awake l → liveFine l ≡ true
+awake-live l w = fine l (w .built) (w .book) (awake-fine (l .kept .state) (l .before) (w .state)) (w .pipe)
+
+happens-keeps : (e : Event) (r : Record) (resumed : Bool) (s book : List ℕ) (l : Live) (b : List ℕ) → Awake l → liveFine (happens e r resumed s book l b .live) ≡ true
+unfolding happens dataCome
+happens-keeps Nothing r resumed s book l b w = awake-live l w
+happens-keeps Reset r resumed s book l b w = fine _ (w .built) (w .book) refl (fresh-fits (l .book) Idle (idle .request) 0 (let none : 0 ≤ bufferRoom = omega arith in none))
+happens-keeps Suspend r resumed s book l b w = fine _ (w .built) (w .book) (w .state) (w .pipe)
+happens-keeps Resume r resumed s book l b w = awake-live l w
+happens-keeps (Data a) r resumed s book l b w =
+    let m = arrived a s (l .pipe) b in
+    let k = with-pipe l w (m .pipe) (arrived-holds (l .book) (l .pipe) b (w .pipe) a s) in
+    awake-live _ (follow-keeps r (m .done) (odd (a .done)) (takenBy (a .write)) book (withPipe (m .pipe) l) (m .buffer) k)
+
+after-awake : (s before : State) → stateFine s before ≡ true → awake (stateAfter s before) ≡ true
+after-awake Default before e = refl
+after-awake Addressed before e = refl
+after-awake Configured before e = refl
+after-awake Suspended before e = e
+
+woken-awake : (l : Live) → liveFine l ≡ true → Awake (woken l)
+unfolding liveFine
+woken-awake l e =
+    let t = stateFine (l .kept .state) (l .before) in
+    let x = and-left (l .built && bookFine (l .book) && t) (pipeFine (l .pipe) (l .book)) e in
+    let y = and-left (l .built && bookFine (l .book)) t x in
+    record {
+      built = and-left (l .built) (bookFine (l .book)) y;
+      book = and-right (l .built) (bookFine (l .book)) y;
+      state = after-awake (l .kept .state) (l .before) (and-right (l .built && bookFine (l .book)) t x);
+      pipe = pipe-facts (l .pipe) (l .book) (and-right (l .built && bookFine (l .book) && t) (pipeFine (l .pipe) (l .book)) e);
+    }
+
+-- from every good state, reachable or not, and with any record and any bytes, each event leads to a good state:
+-- no step leaves a state that refusal 9 names
+pub keeps : (e : Event) (r : Record) (s book : List ℕ) (l : Live) (b : List ℕ) → liveFine l ≡ true → liveFine (handled e r s book l b .live) ≡ true
+unfolding handled
+keeps e r s book l b f =
+    let asleep = not (awake (l .kept .state)) in
+    cond-elim (λ (d : Done). liveFine (d .live) ≡ true) (asleep && dull e) _ _ (λ t. f) (λ t. happens-keeps e r asleep s book (woken l) b (woken-awake l f))
