@@ -90,7 +90,7 @@ fn recipient_of(b: u8) -> Recipient
 }
 
 // The word of two bytes, the low one first.
-fn word(first: u8, second: u8) -> u16
+pub fn word(first: u8, second: u8) -> u16
     ensures { λ r. ⌜ r ≡ first + 256 * second ⌝ }
 {
     first as u16 + 256 * (second as u16)
