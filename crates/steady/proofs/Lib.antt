@@ -2,3 +2,4 @@ pub mod Actions
 pub mod Keeps
 pub mod Kept
 pub mod Packets
+pub mod Sharp
