@@ -1,6 +1,6 @@
 -- Document 01, "Field notes to check": the starred notes as one table, and what each says of the definitions.
 use Prim.Native.Nat.{ℕ, _+_, _*_}
-use mathlib.Core.Bool.{false}
+use mathlib.Core.Bool.{true, false}
 use mathlib.Core.List.{List, [], _∷_}
 use mathlib.Core.Option.{some}
 use mathlib.Core.Path.{_≡_}
@@ -24,6 +24,15 @@ use Rattle.limits.specs.Limits.{lowest}
 use Rattle.descriptor.specs.Device.{deviceBytes}
 use Rattle.configuration.specs.Configuration.{configurationBytes}
 use Rattle.strings.specs.Strings.{stringOf}
+use Rattle.control_pipe.specs.declared.Stage.{Stage}
+use Rattle.control_pipe.specs.declared.Stage.the-variants.{CompleteIn, StatusOut, DataOut, Error}
+use Rattle.control_pipe.specs.declared.Read.the-variants.{Packet}
+use Rattle.control_pipe.specs.declared.Told.{Told}
+use Rattle.control_pipe.specs.declared.Told.the-variants.{Unstalls, UnstallsStalls, UnstallOut, Write}
+use Rattle.control_pipe.specs.declared.Source.the-variants.{Buffer}
+use Rattle.control_pipe.specs.declared.Pipe.{Pipe}
+use Rattle.control_pipe.specs.Sizes.{bufferRoom}
+use Rattle.control_pipe.specs.Stages.{Move, fresh, setupCome, inComplete, acceptIn}
 
 pub data Note : Type 0 where
   reads : List ℕ → Request → Note
@@ -33,6 +42,17 @@ pub data Note : Type 0 where
   describes : Record → List ℕ → Note
   configures : Record → List ℕ → Note
   spells : Record → ℕ → ℕ → List ℕ → Note
+  sends : ℕ → ℕ → List ℕ → Note
+  begins : List ℕ → Stage → Told → Note
+
+-- the packet size of the notes
+abbrev pub size : ℕ
+size = 8
+
+-- a move and the IN-completes after it, every write taken: packets of these lengths, one a move, and then the host's status is due
+abbrev pub Packets : List ℕ → List ℕ → Move → Type 0
+Packets [] book m = (m .told ≡ UnstallOut) × (m .pipe .stage ≡ StatusOut)
+Packets (n ∷ ns) book m = (m .told ≡ Write n) × ((length (m .packet) ≡ n) × Packets ns book (inComplete size true book (m .pipe) (m .buffer)))
 
 abbrev pub holds : Note → Type 0
 -- a SETUP of these bytes is this request
@@ -50,6 +70,12 @@ holds (takes r) = lowest (r .plan) (r .ids) (r .lens) ≡ 0
 holds (describes r bytes) = deviceBytes (r .plan) (r .lens) ≡ bytes
 holds (configures r bytes) = configurationBytes (r .plan) ≡ bytes
 holds (spells r number language bytes) = stringOf (r .plan .languages) (r .ids) (r .lens) (r .units) number language ≡ some bytes
+-- an answer of so many bytes, to a request of this wLength, goes out in packets of these lengths, whatever the bytes are
+holds (sends n wanted lengths) =
+    (q : Request) → q .length ≡ wanted → (b book : List ℕ) → length b ≡ bufferRoom
+    → Packets lengths book (acceptIn Buffer 0 n size true book (fresh CompleteIn q 0) b)
+-- a SETUP of these bytes leads to this stage and tells this, whatever was before it
+holds (begins bytes s t) = (p : Pipe) (b : List ℕ) → (setupCome Packet bytes p b .pipe .stage ≡ s) × (setupCome Packet bytes p b .told ≡ t)
 
 abbrev pub All : List Note → Type 0
 All [] = Unit {0}
@@ -98,4 +124,10 @@ notes =
     -- 6
     ∷ spells pan 1 0x0409 (0x08 ∷ 0x03 ∷ 0x50 ∷ 0x00 ∷ 0x61 ∷ 0x00 ∷ 0x6e ∷ 0x00 ∷ [])
     ∷ spells pan 0 0 (0x04 ∷ 0x03 ∷ 0x09 ∷ 0x04 ∷ [])
+    -- 7
+    ∷ sends 18 64 (8 ∷ 8 ∷ 2 ∷ [])
+    ∷ sends 18 16 (8 ∷ 8 ∷ 0 ∷ [])
+    -- 8
+    ∷ begins (0x40 ∷ 0x02 ∷ 0x00 ∷ 0x00 ∷ 0x00 ∷ 0x00 ∷ 0x81 ∷ 0x00 ∷ []) Error UnstallsStalls
+    ∷ begins (0x40 ∷ 0x02 ∷ 0x00 ∷ 0x00 ∷ 0x00 ∷ 0x00 ∷ 0x80 ∷ 0x00 ∷ []) DataOut Unstalls
     ∷ []

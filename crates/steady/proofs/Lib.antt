@@ -2,4 +2,5 @@ pub mod Actions
 pub mod Keeps
 pub mod Kept
 pub mod Packets
+pub mod Pinned
 pub mod Sharp
