@@ -77,7 +77,8 @@ fn no_masks() -> Masks
     }
 }
 
-fn said(h: Handled, event: Event) -> Polled
+// What a step says of an event that was handled.
+pub fn said(h: Handled, event: Event) -> Polled
     ensures { λ r. ⌜ r ≡ polledOf h event ⌝ }
 {
     let first = h.first;
