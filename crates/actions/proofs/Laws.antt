@@ -1,8 +1,10 @@
 -- Laws of the slots that the proofs cite. Assumes nothing.
-use Prim.Native.Nat.{ℕ}
+use Prim.Native.Nat.{ℕ, _≤_}
 use mathlib.Core.Bool.{Bool, true, false, cond}
 use mathlib.Core.Path.{_≡_, refl, sym, ap, _∙_}
 use mathlib.Core.List.{List, [], _∷_, _++_}
+use native.Mathlib.Omega.{arith}
+use lib.ListN.{length, take}
 use types.Run.{OneOf, miss}
 use denote.Enum.Declared.{tagOf}
 use Rattle.control_pipe.specs.declared.Told.{Told}
@@ -11,7 +13,7 @@ use Rattle.effects.specs.declared.Action.the-variants.{Nothing, Resume, Suspend
 use Rattle.effects.proofs.Action.{the-type}
 use Rattle.events.specs.Events.{listed, alone, toldBy}
 use Rattle.actions.specs.declared.Actions.{Actions}
-use Rattle.actions.specs.Actions.{consed, laid, packed}
+use Rattle.actions.specs.Actions.{consed, laid, packed, slots}
 
 abbrev some : List ℕ
 some = 1 ∷ 2 ∷ 3 ∷ 4 ∷ 5 ∷ 6 ∷ 7 ∷ 8 ∷ 9 ∷ 10 ∷ 11 ∷ 12 ∷ []
@@ -43,3 +45,13 @@ told-parts first act second e f g h =
     h
     ∙ (ap (laid (listed first)) (g ∙ ap (laid (alone act)) (f ∙ ap (laid (listed second)) e))
     ∙ (ap (laid (listed first)) (sym (laid-append (alone act) (listed second) (packed []))) ∙ sym (laid-append (listed first) (alone act ++ listed second) (packed []))))
+
+-- five actions at most are all in their slots
+pub nothing-lost : (xs : List Action) → length xs ≤ 5 → take (length xs) (slots (packed xs)) ≡ xs
+nothing-lost [] l = refl
+nothing-lost (a ∷ []) l = refl
+nothing-lost (a ∷ b ∷ []) l = refl
+nothing-lost (a ∷ b ∷ c ∷ []) l = refl
+nothing-lost (a ∷ b ∷ c ∷ d ∷ []) l = refl
+nothing-lost (a ∷ b ∷ c ∷ d ∷ e ∷ []) l = refl
+nothing-lost (a ∷ b ∷ c ∷ d ∷ e ∷ f ∷ xs) l = absurd (omega arith)

@@ -15,3 +15,7 @@ laid (x ∷ xs) r = consed x (laid xs r)
 -- a list in its slots; five are never too few for a step (steady/proofs, `five`)
 abbrev pub packed : List Action → Actions
 packed xs = laid xs (record { first = Nothing; second = Nothing; third = Nothing; fourth = Nothing; fifth = Nothing })
+
+-- the slots in order
+abbrev pub slots : Actions → List Action
+slots r = r .first ∷ r .second ∷ r .third ∷ r .fourth ∷ r .fifth ∷ []

@@ -61,18 +61,18 @@ module _ (r : Record) (q : Request) where
   unfolding described descriptorOf
   described-none a b c = rw (ne-eqb _ _ a, ne-eqb _ _ b, ne-eqb _ _ c) (cond-same (eqb (lowest (r .plan) (r .ids) (r .lens)) 0) stall)
 
-  -- the buffer takes each descriptor of a good record
-  module _ (good₀ : lowest (r .plan) (r .ids) (r .lens) ≡ 0) where
-    pub device-fits : (b : List ℕ) → some (deviceBytes (r .plan) (r .lens)) ≡ some b → length b ≤ bufferRoom
-    unfolding deviceBytes
-    device-fits b e = rw (← (Option·some-injective (deviceBytes (r .plan) (r .lens)) b e)) (let l : 18 ≤ 128 = omega arith in l)
+-- the buffer takes each descriptor of a good record
+module _ (r : Record) (good₀ : lowest (r .plan) (r .ids) (r .lens) ≡ 0) where
+  pub device-fits : (b : List ℕ) → some (deviceBytes (r .plan) (r .lens)) ≡ some b → length b ≤ bufferRoom
+  unfolding deviceBytes
+  device-fits b e = rw (← (Option·some-injective (deviceBytes (r .plan) (r .lens)) b e)) (let l : 18 ≤ 128 = omega arith in l)
 
-    pub configuration-fits : (b : List ℕ) → some (configurationBytes (r .plan)) ≡ some b → length b ≤ bufferRoom
-    configuration-fits b e =
-        let l : length (configurationBytes (r .plan)) ≤ 101 = longest-configuration (r .plan) (good (r .plan) (r .ids) (r .lens) good₀ .layout) in
-        rw (← (Option·some-injective (configurationBytes (r .plan)) b e)) (omega (arith, l))
+  pub configuration-fits : (b : List ℕ) → some (configurationBytes (r .plan)) ≡ some b → length b ≤ bufferRoom
+  configuration-fits b e =
+      let l : length (configurationBytes (r .plan)) ≤ 101 = longest-configuration (r .plan) (good (r .plan) (r .ids) (r .lens) good₀ .layout) in
+      rw (← (Option·some-injective (configurationBytes (r .plan)) b e)) (omega (arith, l))
 
-    pub string-fits : (number language : ℕ) (b : List ℕ) → stringOf (r .plan .languages) (r .ids) (r .lens) (r .units) number language ≡ some b → length b ≤ bufferRoom
-    string-fits number language b e =
-        let l : length b ≤ 2 + 2 * unitRoom = string-short (r .plan .languages) (r .ids) (r .lens) (r .units) (good (r .plan) (r .ids) (r .lens) good₀ .languages) number language b e in
-        omega (arith, l)
+  pub string-fits : (number language : ℕ) (b : List ℕ) → stringOf (r .plan .languages) (r .ids) (r .lens) (r .units) number language ≡ some b → length b ≤ bufferRoom
+  string-fits number language b e =
+      let l : length b ≤ 2 + 2 * unitRoom = string-short (r .plan .languages) (r .ids) (r .lens) (r .units) (good (r .plan) (r .ids) (r .lens) good₀ .languages) number language b e in
+      omega (arith, l)

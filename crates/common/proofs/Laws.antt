@@ -108,6 +108,15 @@ module _ {A : Type 0} where
           rw (e, length-take-le n (drop f s) h, zero-add n)
       at false e = rw e (sym (cond-same (leb 0 (length r)) r))
 
+  -- nothing written leaves the room
+  pub front-nil : (room : List A) → room ≡ front [] room
+  unfolding front
+  front-nil room = sym (cond-same (leb 0 (length room)) room)
+
+  -- the first n are at most n
+  pub at-most : (n : ℕ) (l : List A) → length (take n l) ≤ n
+  at-most n l = rw (length-take n l) (omega arith)
+
   -- what is placed leaves the length
   pub length-placed : (d s : List A) (at : ℕ) → at + length s ≤ length d → length (placed d at s) ≡ length d
   unfolding placed

@@ -6,10 +6,10 @@ use mathlib.Core.List.{List, [], _∷_, _++_, map}
 use native.Mathlib.Omega.{arith}
 use borrow.Author.Tests.{eqb-true, eqb-false, ltb-true}
 use lib.Dec.{eqb, ltb}
-use lib.ListN.{length, take, replicate, length-append, length-take}
+use lib.ListN.{length, take, replicate, length-append}
 use lib.Seq.{length-take-le}
 use Rattle.common.specs.Lists.{between, every, member, noneTwice}
-use Rattle.common.proofs.Laws.{and-left, and-right}
+use Rattle.common.proofs.Laws.{and-left, and-right, at-most}
 use Rattle.plan.specs.Sizes.{interfaceRoom, endpointRoom}
 use Rattle.plan.specs.declared.Endpoint.{Endpoint}
 use Rattle.plan.specs.declared.Interface.{Interface}
@@ -127,9 +127,6 @@ owned-once e i (x ∷ xs) = go (eqb (e .interface) i) refl (owned-once e (i + 1)
 few-owners : (es : List Endpoint) (i : ℕ) (xs : List Interface) → owners es i xs ≤ length es
 few-owners [] i xs = omega (arith, no-owners i xs)
 few-owners (e ∷ es) i xs = omega (arith, owners-cons e es i xs, owned-once e i xs, few-owners es i xs)
-
-at-most : {A : Type 0} (n : ℕ) (l : List A) → length (take n l) ≤ n
-at-most n l = rw (length-take n l) (omega arith)
 
 pub longest-configuration : (p : Plan) → layoutFine p ≡ true → length (configurationBytes p) ≤ 101
 unfolding configurationBytes headBytes bodyBytes

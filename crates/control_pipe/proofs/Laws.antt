@@ -9,8 +9,8 @@ use native.Mathlib.Omega.{arith}
 use borrow.Author.Tests.{le-leb, lt-leb, leb-true, leb-false}
 use lib.Dec.{leb, eqb}
 use lib.ListN.{length, replicate}
-use Rattle.common.specs.Bytes.{placed, stored, front}
-use Rattle.common.proofs.Laws.{cond-elim, cond-same, stored-full, stored-whole, placed-nil}
+use Rattle.common.specs.Bytes.{placed, stored}
+use Rattle.common.proofs.Laws.{cond-elim, stored-full, stored-whole, placed-nil}
 use Rattle.control.specs.declared.Direction.{Direction}
 use Rattle.control.specs.declared.Direction.the-variants.{In, Out}
 use Rattle.control.specs.declared.Request.{Request}
@@ -104,11 +104,6 @@ in-quiet CompleteOut size taken book p b h = refl
 in-quiet DataOut size taken book p b h = refl
 in-quiet StatusIn size taken book p b h = absurd (miss quiet 8 tt h)
 in-quiet Error size taken book p b h = refl
-
--- nothing written leaves the room
-pub front-nil : (room : List ℕ) → room ≡ front [] room
-unfolding front
-front-nil room = sym (cond-same (leb 0 (length room)) room)
 
 -- a buffer that is cleared is zero
 pub cleared : (b : List ℕ) → length b ≡ bufferRoom → replicate (length b) 0 ≡ zeros

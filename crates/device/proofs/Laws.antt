@@ -8,8 +8,7 @@ use borrow.Author.Tests.{le-leb, leb-true, eqb-true, eqb-false}
 use lib.Dec.{eqb, leb}
 use lib.ListN.{length, take, drop}
 use Rattle.common.specs.Bytes.{inside, piece, stored, front}
-use Rattle.common.specs.Refusals.{numberOf, refusal}
-use Rattle.common.specs.declared.Refusal.{Refusal}
+use Rattle.common.proofs.Refusals.{Named}
 use Rattle.common.proofs.Laws.{cond-elim, and-left, and-right, stored-front}
 use Rattle.record.specs.declared.Record.{Record}
 use Rattle.limits.specs.Limits.{lowest}
@@ -17,6 +16,7 @@ use Rattle.limits.proofs.Good.{lowest-number}
 use Rattle.control_pipe.specs.Sizes.{bufferRoom}
 use Rattle.control_pipe.specs.declared.Coming.{Coming}
 use Rattle.requests.specs.Sizes.{tileSize}
+use Rattle.live.proofs.Laws.{unfit-named}
 use Rattle.live.specs.Live.{bookFine, comingFine, replyFine, pipeFine, stateFine, liveFine, unfit, stepRefusal}
 use Rattle.events.specs.declared.Event.{Event}
 use Rattle.events.specs.declared.Handled.{Handled}
@@ -25,14 +25,6 @@ use Rattle.device.specs.declared.Device.{Device}
 use Rattle.device.specs.declared.Polled.{Polled}
 use Rattle.device.specs.declared.Stepped.{Stepped}
 use Rattle.device.specs.Device.{buildRefusal, refusedBy, polledOf, steppedTo, unfitDevice, dataReady, dataOf, dataRefusal, dataRefused}
-
--- a number that is one of the table's
-abbrev Named : ℕ → Type 0
-Named n = numberOf (refusal n) ≡ n
-
--- what a caller learns that asks for the number of a refusal
-pub told : {n k : ℕ} {why : Refusal} → Named n → why ≡ refusal n → k ≡ numberOf why → k ≡ n
-told m e k = k ∙ (ap numberOf e ∙ m)
 
 pub build-named : (r : Record) (book : ℕ) → Named (buildRefusal r book)
 unfolding buildRefusal
@@ -49,9 +41,8 @@ built-small r book e = at (eqb (lowest (r .plan) (r .ids) (r .lens)) 0) refl (bo
     at true z false b = absurd (let x : _≡_ {A = ℕ} 4 0 = rw (z, b) at e in omega (arith, x))
     at false z u b = absurd (eqb-false (lowest (r .plan) (r .ids) (r .lens)) 0 z (rw z at e))
 
-pub unfit-named : (d : Device) → Named (unfitDevice d)
-unfolding unfit
-unfit-named d = cond-elim Named (liveFine (d .live) && eqb (lowest (d .profile .plan) (d .profile .ids) (d .profile .lens)) 0) 0 9 (λ e. refl) (λ e. refl)
+pub fit-named : (d : Device) → Named (unfitDevice d)
+fit-named d = unfit-named (d .profile .plan) (d .profile .ids) (d .profile .lens) (d .live)
 
 pub step-named : (d : Device) (book room : List ℕ) → Named (refusedBy d book room)
 unfolding stepRefusal
@@ -66,7 +57,7 @@ data-named d room =
     let c = d .live .pipe .coming in
     cond-elim Named (eqb (unfitDevice d) 0) _ _
     (λ e. cond-elim Named (dataReady c) _ _ (λ e. cond-elim Named (leb (c .awaited) room) 0 8 (λ e. refl) (λ e. refl)) (λ e. refl))
-    (λ e. unfit-named d)
+    (λ e. fit-named d)
 
 pub data-fit : (d : Device) (room : ℕ) → dataRefused d room ≡ 0 → unfitDevice d ≡ 0
 unfolding dataRefusal

@@ -3,10 +3,8 @@ use Prim.Native.Nat.{ℕ}
 use mathlib.Core.Bool.{Bool, true, false, cond, not, _&&_}
 use mathlib.Core.Path.{_≡_, refl, sym, ap, _∙_}
 use mathlib.Core.List.{List, []}
-use lib.Dec.{eqb, leb}
-use lib.ListN.{length}
+use lib.Dec.{eqb}
 use Rattle.common.specs.Bytes.{front}
-use Rattle.common.proofs.Laws.{cond-same}
 use Rattle.control_pipe.specs.declared.Moved.{Moved}
 use Rattle.control_pipe.specs.Stages.{Move, moved}
 use Rattle.live.specs.declared.Live.{Live}
@@ -31,8 +29,3 @@ module _ {h : Half} {r : Moved} {exit : List ℕ} {t : Bool} (m : Move) (quirk :
   tick-left e k =
       let z : dueBy quirk (moved m) ≡ false = sym (ap (dueBy quirk) p) ∙ (sym q ∙ e) in
       rw z (record { value = k ∙ ap (λ (r : Moved). moving r NoAction l) p; room = x })
-
--- nothing written leaves the room
-pub front-nil : (room : List ℕ) → room ≡ front [] room
-unfolding front
-front-nil room = sym (cond-same (leb 0 (length room)) room)

@@ -354,10 +354,10 @@ module _ (book : ℕ) (r : Record) where
     unfolding descriptorOf
     descriptor-sound kind index language z =
         let P : Option (List ℕ) → Type 0 = λ o. SoundOf (told o) in
-        cond-elim P (eqb kind 1) _ _ (λ e. told-sound (some (deviceBytes (r .plan) (r .lens))) (device-fits r q z))
-        (λ e. cond-elim P (eqb kind 2) _ _ (λ e. told-sound (some (configurationBytes (r .plan))) (configuration-fits r q z))
+        cond-elim P (eqb kind 1) _ _ (λ e. told-sound (some (deviceBytes (r .plan) (r .lens))) (device-fits r z))
+        (λ e. cond-elim P (eqb kind 2) _ _ (λ e. told-sound (some (configurationBytes (r .plan))) (configuration-fits r z))
         (λ e. cond-elim P (eqb kind 3) _ _
-        (λ e. told-sound (stringOf (r .plan .languages) (r .ids) (r .lens) (r .units) index language) (string-fits r q z index language))
+        (λ e. told-sound (stringOf (r .plan .languages) (r .ids) (r .lens) (r .units) index language) (string-fits r z index language))
         (λ e. tt)))
 
     described-sound : SoundOf (described r q)

@@ -7,10 +7,10 @@ use mathlib.Core.Option.{Option, some, none, Option·map, Option·none-ne-some, 
 use native.Mathlib.Omega.{arith}
 use borrow.Author.Tests.{leb-true}
 use lib.Dec.{eqb, leb}
-use lib.ListN.{length, getD, take, drop, length-take}
+use lib.ListN.{length, getD, take, drop}
 use Rattle.common.specs.Bytes.{part}
 use Rattle.common.specs.Lists.{between, every}
-use Rattle.common.proofs.Laws.{cond-elim, and-left, and-right}
+use Rattle.common.proofs.Laws.{cond-elim, and-left, and-right, at-most}
 use Rattle.common.proofs.Lists.{every-at}
 use Rattle.record.specs.Sizes.{names, unitRoom, languageRoom}
 use Rattle.record.specs.Filling.{slotOf}
@@ -23,9 +23,6 @@ abbrev Short : Option (List ℕ) → Type 0
 Short none = Unit {0}
 Short (some us) = length us ≤ unitRoom
 
-at-most : (l : List ℕ) (n : ℕ) → length (take n l) ≤ n
-at-most l n = rw (length-take n l) (omega arith)
-
 module _ (n : ℕ) (ids lens units : List ℕ) (fine : languagesFine n ids lens ≡ true) where
   facts : Tongues n ids lens
   facts = tongue-facts n ids lens fine
@@ -35,7 +32,7 @@ module _ (n : ℕ) (ids lens units : List ℕ) (fine : languagesFine n ids lens 
   slot-short slot l =
       let len = getD lens slot 0 in
       let h : len ≤ unitRoom + 1 = leb-true len (unitRoom + 1) (every-at lengthFine lens (names * n) slot 0 l refl (facts .lengths)) in
-      let k : length (part (unitRoom * slot) (len - 1) units) ≤ len - 1 = at-most (drop (unitRoom * slot) units) (len - 1) in
+      let k : length (part (unitRoom * slot) (len - 1) units) ≤ len - 1 = at-most (len - 1) (drop (unitRoom * slot) units) in
       cond-elim Short (eqb len 0) none (some (part (unitRoom * slot) (len - 1) units)) (λ e. tt) (λ e. omega (arith, h, k))
 
   name-short : (name : ℕ) → name < names → (o : Option ℕ) → ((i : ℕ) → o ≡ some i → i < n) → Short (nameAt lens units name o)
@@ -48,7 +45,7 @@ module _ (n : ℕ) (ids lens units : List ℕ) (fine : languagesFine n ids lens 
   units-short : (number language : ℕ) → Short (unitsOf n ids lens units number language)
   unfolding unitsOf
   units-short number language =
-      let l : length (take n ids) ≤ n = at-most ids n in
+      let l : length (take n ids) ≤ n = at-most n ids in
       cond-elim Short (eqb number 0) _ _ (λ e. omega (arith, l, facts .few))
       (λ e. cond-elim Short (between 1 names number) _ _
       (λ e. let k : number ≤ names = leb-true number names (and-right (leb 1 number) (leb number names) e) in

@@ -1,4 +1,4 @@
-use Rattle.effects.proofs.Laws.{front-nil}
+use Rattle.common.proofs.Laws.{front-nil}
 use Rattle.effects.specs.Effects.{setOut}
 use borrow.Author.Needs.{needs}
 use Rattle.effects.proofs.set_out.Statement.{statement}

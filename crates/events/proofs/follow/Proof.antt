@@ -1,7 +1,7 @@
 use Rattle.answers.specs.Answers.{answer, parts}
 use Rattle.events.proofs.Laws.{answer-followed, tick-followed}
 use Rattle.events.specs.Events.{followed}
-use Rattle.effects.proofs.Laws.{front-nil}
+use Rattle.common.proofs.Laws.{front-nil}
 use denote.Ref.{now}
 use mathlib.Core.Path.{refl, sym, _∙_}
 use borrow.Author.Needs.{needs}

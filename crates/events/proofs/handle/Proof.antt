@@ -1,5 +1,5 @@
 use Rattle.events.specs.Events.{handled}
-use Rattle.effects.proofs.Laws.{front-nil}
+use Rattle.common.proofs.Laws.{front-nil}
 use mathlib.Core.Path.{refl, sym, _∙_}
 use borrow.Author.Needs.{needs}
 use Rattle.events.proofs.handle.Statement.{statement}

@@ -1,6 +1,6 @@
 use Rattle.control_pipe.proofs.Laws.{cleared}
 use Rattle.events.specs.Events.{happens}
-use Rattle.effects.proofs.Laws.{front-nil}
+use Rattle.common.proofs.Laws.{front-nil}
 use denote.Ref.{now}
 use mathlib.Core.Path.{refl, sym, _∙_}
 use borrow.Author.Needs.{needs}

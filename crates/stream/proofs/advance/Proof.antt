@@ -4,7 +4,8 @@ use borrow.Author.Tests.{ne-eqb}
 use Rattle.answers.specs.Answers.{parts}
 use Rattle.common.proofs.Laws.{placed-nil}
 use Prim.Native.Nat.{_+_, _-_}
-use Rattle.device.proofs.Laws.{told, step-named}
+use Rattle.device.proofs.Laws.{step-named}
+use Rattle.common.proofs.Refusals.{told}
 use denote.Ref.{now}
 use native.Mathlib.Omega.{arith}
 use mathlib.Core.Path.{_≡_, refl, sym, _∙_}

@@ -1,5 +1,6 @@
 use denote.Ref.{now}
-use Rattle.control_pipe.proofs.Laws.{in-at, in-quiet, front-nil}
+use Rattle.control_pipe.proofs.Laws.{in-at, in-quiet}
+use Rattle.common.proofs.Laws.{front-nil}
 use Rattle.control_pipe.specs.Stages.{inAt, inComplete}
 use borrow.Author.Needs.{needs}
 use Rattle.control_pipe.proofs.Pipe.in_complete.Statement.{statement}

@@ -1,6 +1,7 @@
 use Prim.Native.Nat.{_≤_}
 use native.Mathlib.Omega.{arith}
-use Rattle.device.proofs.Laws.{told, build-named, built-small}
+use Rattle.device.proofs.Laws.{build-named, built-small}
+use Rattle.common.proofs.Refusals.{told}
 use Rattle.device.specs.Device.{buildOf}
 use mathlib.Core.Path.{_≡_, refl, sym, ap, _∙_}
 use borrow.Author.Tests.{eq-eqb, ne-eqb, le-leb, lt-leb, not-true, not-false}

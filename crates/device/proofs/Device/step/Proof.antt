@@ -1,5 +1,6 @@
 use Rattle.device.specs.Device.{stepOf, roomOf, done}
-use Rattle.device.proofs.Laws.{told, step-named, step-done}
+use Rattle.device.proofs.Laws.{step-named, step-done}
+use Rattle.common.proofs.Refusals.{told}
 use Rattle.device.specs.Device.{stepOf, roomOf}
 use denote.Ref.{now}
 use mathlib.Core.Path.{_≡_, refl, sym, ap, _∙_}
