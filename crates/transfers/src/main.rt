@@ -1,6 +1,6 @@
 // Drives whole transfers: the event records of standard input go through a device of each packet size, with a book of three
 // records. A line for each event has its trace entry in hex, without the zero bytes at its end.
-// What it prints is held to the file stdout, which a model written from document 01 made, not this program.
+// What it prints is held to the file stdout, which model/transfers.py made from document 01.
 use control::EndpointAddress;
 use device::Device;
 use libc::STDIN_FILENO;
