@@ -1,6 +1,6 @@
 -- Document 01, "What is to be nailed down", demand 3: histories of a device, and what can be seen of them.
 use Prim.Native.Nat.{ℕ}
-use mathlib.Core.Bool.{Bool, true}
+use mathlib.Core.Bool.{Bool}
 use mathlib.Core.List.{List, [], _∷_}
 use mathlib.Core.Path.{_≡_}
 use lib.ListN.{length}
@@ -9,7 +9,14 @@ use Rattle.events.specs.declared.Event.{Event}
 use Rattle.device.specs.declared.Device.{Device}
 use Rattle.device.specs.declared.Polled.{Polled}
 use Rattle.device.specs.declared.Handed.{Handed}
-use Rattle.device.specs.Device.{refusedBy, stepOf, roomOf, handedOf, handedRoom, poweredOf}
+use Rattle.device.specs.Device.{stepOf, roomOf, handedOf, handedRoom, poweredOf}
+
+-- what demand 3 lets outlive a SETUP: device state, remote wakeup, self-powered flag, and the halts of endpoints 1 to 15
+pub record Agree (d d′ : Device) : Type 0 where
+  pub state : d .live .kept .state ≡ d′ .live .kept .state
+  pub wakeup : d .live .kept .wakeup ≡ d′ .live .kept .wakeup
+  pub powered : d .live .kept .powered ≡ d′ .live .kept .powered
+  pub halts : d .live .kept .halts ≡ d′ .live .kept .halts
 
 -- a moment: an event with the book, the packet and the room lent to it; a setting of the self-powered flag; or data asked for
 pub data Moment : Type 0 where
