@@ -277,13 +277,13 @@ module _ (r : Record) (q : Request) (tick taken : Bool) (book : List ℕ) (n : �
       by Out e = out-cut e
 
 -- a SETUP of eight bytes is accepted, whatever the pipe was
-accepted : (a : Arrival) (s : List ℕ) (p : Pipe) (b : List ℕ) → odd (a .setup) ≡ true → a .read ≡ Packet → length s ≡ 8 → arrived a s p b ≡ beginBy (requestOf s .direction) (requestOf s)
+pub accepted : (a : Arrival) (s : List ℕ) (p : Pipe) (b : List ℕ) → odd (a .setup) ≡ true → a .read ≡ Packet → length s ≡ 8 → arrived a s p b ≡ beginBy (requestOf s .direction) (requestOf s)
 unfolding arrived setupCome begun parsed
 accepted a s p b o r e =
     let g : parsed s ≡ Good (requestOf s) = rw e refl in
     rw o (ap (λ (x : Read). setupCome x s p b) r ∙ ap (λ (x : Parsed). begun x p b) g)
 
-data-done : (a : Arrival) (r : Record) (s book : List ℕ) (l : Live) (b : List ℕ) → handled (Data a) r s book l b ≡ dataCome r (not (awake (l .kept .state))) a s book (woken l) b
+pub data-done : (a : Arrival) (r : Record) (s book : List ℕ) (l : Live) (b : List ℕ) → handled (Data a) r s book l b ≡ dataCome r (not (awake (l .kept .state))) a s book (woken l) b
 unfolding handled happensTo
 data-done a r s book l b = rw (and-false (not (awake (l .kept .state)))) refl
 

@@ -1,2 +1,4 @@
 pub mod Cut
 pub mod Reset
+pub mod Sent
+pub mod Transfer

@@ -1,13 +1,13 @@
 -- After a bus reset only record, book, self-powered flag and what comes later count. Assumes nothing.
-use Prim.Native.Nat.{ℕ}
+use Prim.Native.Nat.{ℕ, _≤_}
 use mathlib.Core.Bool.{Bool, true, false, cond, not, _&&_}
 use mathlib.Core.Path.{_≡_, refl, sym, ap, ap₂, _∙_}
 use mathlib.Core.List.{List, []}
 use native.Mathlib.Omega.{arith}
-use borrow.Author.Tests.{eqb-true}
+use borrow.Author.Tests.{eqb-true, leb-true}
 use lib.Dec.{eqb, leb}
 use lib.ListN.{length}
-use Rattle.common.proofs.Laws.{and-left, and-false}
+use Rattle.common.proofs.Laws.{and-left, and-right, and-false}
 use Rattle.record.specs.declared.Record.{Record}
 use Rattle.limits.specs.Limits.{lowest}
 use Rattle.control_pipe.specs.Stages.{idle, zeros}
@@ -32,8 +32,9 @@ restartedOf r powered book =
       buffer = zeros;
     }
 
-three : (a b c : Bool) → _≡_ {A = ℕ} (cond a (cond b (cond c 0 6) 5) 9) 0 → (a ≡ true) × (b ≡ true)
-three true true c e = (refl, refl)
+three : (a b c : Bool) → _≡_ {A = ℕ} (cond a (cond b (cond c 0 6) 5) 9) 0 → (a ≡ true) × ((b ≡ true) × (c ≡ true))
+three true true true e = (refl, (refl, refl))
+three true true false e = absurd (omega arith)
 three true false c e = absurd (omega arith)
 three false b c e = absurd (omega arith)
 
@@ -42,11 +43,13 @@ first true y e = refl
 first false y e = absurd (omega arith)
 
 -- what a step that no number refuses tells of its device
-pub record Usable (d : Device) (book : List ℕ) : Type 0 where
+pub record Usable (d : Device) (book lent : List ℕ) : Type 0 where
   pub built : d .live .built ≡ true
   pub same : length book ≡ d .live .book
+  pub pipe : pipeFine (d .live .pipe) (d .live .book) ≡ true
+  pub room : d .profile .plan .basics .packet ≤ length lent
 
-pub usable : (d : Device) (book room : List ℕ) → refusedBy d book room ≡ 0 → Usable d book
+pub usable : (d : Device) (book room : List ℕ) → refusedBy d book room ≡ 0 → Usable d book room
 unfolding stepRefusal unfit liveFine
 usable d book room z =
     let l = d .live in
@@ -56,7 +59,12 @@ usable d book room z =
     let f : liveFine l ≡ true = first (liveFine l) (eqb (lowest (r .plan) (r .ids) (r .lens)) 0) (eqb-true fit 0 (t .0)) in
     let a = and-left (l .built && bookFine (l .book) && stateFine (l .kept .state) (l .before)) (pipeFine (l .pipe) (l .book)) f in
     let b = and-left (l .built && bookFine (l .book)) (stateFine (l .kept .state) (l .before)) a in
-    record { built = and-left (l .built) (bookFine (l .book)) b; same = eqb-true (length book) (l .book) (t .1) }
+    record {
+      built = and-left (l .built) (bookFine (l .book)) b;
+      same = eqb-true (length book) (l .book) (t .1 .0);
+      pipe = and-right (l .built && bookFine (l .book) && stateFine (l .kept .state) (l .before)) (pipeFine (l .pipe) (l .book)) f;
+      room = leb-true (r .plan .basics .packet) (length room) (t .1 .1);
+    }
 
 -- a step that no number refuses is what its event does
 pub step-taken : (d : Device) (book : List ℕ) (e : Event) (s room : List ℕ) → refusedBy d book room ≡ 0 → stepOf d book e s room ≡ steppedTo d e (done d book e s)

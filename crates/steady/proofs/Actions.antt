@@ -256,6 +256,7 @@ arrived-begins a s p b =
 record Brief (d : Done) : Type 0 where
   five : length (toldBy (d .resumed) (d .first) (d .act) (d .second)) ≤ 5
   once : writes (toldBy (d .resumed) (d .first) (d .act) (d .second)) ≤ 1
+  quiet : (writes (listed (d .first)) ≡ 0) × (writes (alone (d .act)) ≡ 0)
 
 resumed-one : (resumed : Bool) → (length (cond resumed (TellResume ∷ []) []) ≤ 1) × (writes (cond resumed (TellResume ∷ []) []) ≡ 0)
 unfolding writes
@@ -269,6 +270,7 @@ brief d l x y z =
     record {
       five = rw (length-append xs (listed (d .first) ++ (alone (d .act) ++ listed (d .second))), length-append (listed (d .first)) (alone (d .act) ++ listed (d .second)), length-append (alone (d .act)) (listed (d .second))) (omega (arith, w .0, l));
       once = rw (writes-append xs (listed (d .first) ++ (alone (d .act) ++ listed (d .second))), writes-append (listed (d .first)) (alone (d .act) ++ listed (d .second)), writes-append (alone (d .act)) (listed (d .second))) (omega (arith, w .1, x, y, z));
+      quiet = (x, y);
     }
 
 happens-brief : (e : Event) (r : Record) (resumed : Bool) (s book : List ℕ) (l : Live) (b : List ℕ) → Brief (happens e r resumed s book l b)
@@ -297,3 +299,7 @@ five e r s book l b = handled-brief e r s book l b .five
 -- .. and it is given one packet at most, taken or refused
 pub one-write : (e : Event) (r : Record) (s book : List ℕ) (l : Live) (b : List ℕ) → let d = handled e r s book l b in writes (toldBy (d .resumed) (d .first) (d .act) (d .second)) ≤ 1
 one-write e r s book l b = handled-brief e r s book l b .once
+
+-- .. which is told last
+pub write-last : (e : Event) (r : Record) (s book : List ℕ) (l : Live) (b : List ℕ) → let d = handled e r s book l b in (writes (listed (d .first)) ≡ 0) × (writes (alone (d .act)) ≡ 0)
+write-last e r s book l b = handled-brief e r s book l b .quiet

@@ -66,17 +66,17 @@ both true b e f = f
 both false b e f = e
 
 -- of OUT data, IN answer and pending address, beside a book of so many bytes
-record Fits (c : Coming) (a : Reply) (pending : BusAddress) (book : ℕ) : Type 0 where
-  awaited : c .awaited ≤ bufferRoom
-  held : c .held ≤ bufferRoom
-  sent : a .sent ≤ a .len
-  inside : a .start + a .len ≤ sourceRoom (a .source) book
-  address : pending .0 ≤ 127
+pub record Fits (c : Coming) (a : Reply) (pending : BusAddress) (book : ℕ) : Type 0 where
+  pub awaited : c .awaited ≤ bufferRoom
+  pub held : c .held ≤ bufferRoom
+  pub sent : a .sent ≤ a .len
+  pub inside : a .start + a .len ≤ sourceRoom (a .source) book
+  pub address : pending .0 ≤ 127
 
-abbrev FitsOf : ℕ → Pipe → Type 0
+abbrev pub FitsOf : ℕ → Pipe → Type 0
 FitsOf book p = Fits (p .coming) (p .reply) (p .pending) book
 
-pipe-facts : (p : Pipe) (book : ℕ) → pipeFine p book ≡ true → FitsOf book p
+pub pipe-facts : (p : Pipe) (book : ℕ) → pipeFine p book ≡ true → FitsOf book p
 unfolding pipeFine comingFine replyFine
 pipe-facts p book e =
     let c = p .coming in
@@ -103,7 +103,7 @@ fresh-fits book t q n l = record { awaited = l; held = omega arith; sent = omega
 -- ---- the first half of an event
 
 module _ (book : ℕ) where
-  abbrev Holds : Move → Type 0
+  abbrev pub Holds : Move → Type 0
   Holds m = FitsOf book (m .pipe)
 
   out-begun : (q : Request) → Holds (beginOut q)
@@ -169,7 +169,7 @@ module _ (book : ℕ) where
     out-holds StatusIn r s = bad-holds r (length s)
     out-holds Error r s = bad-holds r (length s)
 
-    arrived-holds : (a : Arrival) (s : List ℕ) → Holds (arrived a s p b)
+    pub arrived-holds : (a : Arrival) (s : List ℕ) → Holds (arrived a s p b)
     unfolding arrived outCome
     arrived-holds a s =
         cond-elim Holds (odd (a .setup)) _ _ (λ e. setup-holds (a .read) s)

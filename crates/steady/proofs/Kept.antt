@@ -120,10 +120,10 @@ kept-built e r s book l b = handled-same e r s book l b .built
 
 -- ---- the buffer
 
-abbrev Whole : List ℕ → Type 0
+abbrev pub Whole : List ℕ → Type 0
 Whole b = length b ≡ bufferRoom
 
-abbrev WholeOf : Move → Type 0
+abbrev pub WholeOf : Move → Type 0
 WholeOf m = Whole (m .buffer)
 
 -- a packet that the rest of the buffer takes leaves its length; none is taken where more than the buffer is held
@@ -185,7 +185,7 @@ module _ (p : Pipe) (b : List ℕ) (w : Whole b) where
   out-whole StatusIn r s = bad-whole r (length s)
   out-whole Error r s = bad-whole r (length s)
 
-  arrived-whole : (a : Arrival) (s : List ℕ) → WholeOf (arrived a s p b)
+  pub arrived-whole : (a : Arrival) (s : List ℕ) → WholeOf (arrived a s p b)
   unfolding arrived outCome
   arrived-whole a s =
       cond-elim WholeOf (odd (a .setup)) _ _ (λ e. setup-whole (a .read) s)
