@@ -56,13 +56,12 @@ use Rattle.device.specs.declared.Built.{Built}
 use Rattle.device.specs.Device.{buildRefusal, buildOf, refusedBy, unfitDevice, stepOf, poweredOf, done}
 use Rattle.steady.proofs.Keeps.{FitsOf, pipe-facts, arrived-holds, Sound, answer-sound}
 use Rattle.steady.proofs.Kept.{Whole, arrived-whole, kept-length}
-use Rattle.steady.proofs.Actions.{five, write-last}
 use Rattle.steady.proofs.Packets.{short}
 use Rattle.promises.specs.History.{Moment, happens, powers, asks, after, shown}
-use Rattle.promises.specs.Transfers.{isPacket, accepts, opens, owedBy, gone, Log, next, follow, Lends, begin}
+use Rattle.promises.specs.Transfers.{isPacket, accepts, opens, owedBy, gone, joined, Log, next, follow, Lends, begin}
 use Rattle.promises.proofs.Cut.{accepted as accepted-setup, data-done}
 use Rattle.promises.proofs.Reset.{Usable, usable, step-taken}
-use Rattle.promises.proofs.Sent.{tookOf, Exact, step-refused, gone-refused, gone-taken}
+use Rattle.promises.proofs.Sent.{tookOf, Exact, joined-append, listed-took, step-refused, gone-refused, gone-taken}
 
 -- ---- lists
 
@@ -493,18 +492,18 @@ record Along (book : List ℕ) (d : Device) (owed sent : List ℕ) : Type 0 wher
   under : Under book (d .live .pipe) (d .buffer) owed sent
 
 abbrev AlongOf : List ℕ → Log → Type 0
-AlongOf book g = Along book (g .device) (g .owed) (g .sent)
+AlongOf book g = Along book (g .device) (g .owed) (joined (g .sent))
 
 module _ (book : List ℕ) (g : Log) (c : AlongOf book g) where
   abbrev d : Device
   d = g .device
 
-  still-along : Along book d (g .owed) (g .sent ++ [])
-  still-along = record { whole = c .whole; under = same book (g .owed) (g .sent) (d .live .pipe .stage) (d .live .pipe .reply) (d .live .pipe .request) (d .buffer) (c .under) }
+  still-along : Along book d (g .owed) (joined (g .sent ++ []))
+  still-along = subst⁻¹ (λ (x : List (List ℕ)). Along book d (g .owed) (joined x)) (append-nil (g .sent)) c
 
   powers-along : (on : Bool) → AlongOf book (next g (powers on))
   unfolding next opens after gone shown poweredOf
-  powers-along on = cond-elim (λ (x : Built). Along book (x .device) (g .owed) (g .sent ++ [])) (eqb (unfitDevice d) 0) _ _ (λ t. record { whole = c .whole; under = still-along .under }) (λ t. still-along)
+  powers-along on = cond-elim (λ (x : Built). Along book (x .device) (g .owed) (joined (g .sent ++ []))) (eqb (unfitDevice d) 0) _ _ (λ t. record { whole = c .whole; under = still-along .under }) (λ t. still-along)
 
   asks-along : (room : List ℕ) → AlongOf book (next g (asks room))
   unfolding next opens after gone shown
@@ -519,7 +518,7 @@ module _ (book : List ℕ) (g : Log) (c : AlongOf book g) where
     unfolding next opens after
     refused-along z =
         rw (z, gone-refused d book e s room z)
-        (subst⁻¹ (λ (x : Stepped). Along book (x .device) (g .owed) (g .sent ++ [])) (step-refused d book e s room z) still-along)
+        (subst⁻¹ (λ (x : Stepped). Along book (x .device) (g .owed) (joined (g .sent ++ []))) (step-refused d book e s room z) still-along)
 
     module _ (z : refusedBy d book room ≡ 0) where
       abbrev x : Done
@@ -529,24 +528,25 @@ module _ (book : List ℕ) (g : Log) (c : AlongOf book g) where
       u = usable d book room z
 
       -- what an event leaves, of what was owed and sent before it
-      taken-along : (owed sent : List ℕ) → Sends book (x .live .pipe) (x .buffer) (x .second) (x .packet) owed sent → Along book (after d m) owed (sent ++ gone (shown d m))
+      taken-along : (owed : List ℕ) (sent : List (List ℕ)) → Sends book (x .live .pipe) (x .buffer) (x .second) (x .packet) owed (joined sent) → Along book (after d m) owed (joined (sent ++ gone (shown d m)))
       unfolding after
       taken-along owed sent y =
           let f : length (x .packet) ≤ d .profile .plan .basics .packet = short e (d .profile) s book (d .live) (d .buffer) .packet in
           let k : length (x .packet) ≤ length room = omega (arith, f, u .room) in
-          let q = write-last e (d .profile) s book (d .live) (d .buffer) in
-          let h = gone-taken d book e s room z (five e (d .profile) s book (d .live) (d .buffer)) (q .0) (q .1) (y .exact) k in
-          subst⁻¹ (λ (i : List ℕ). Along book (stepOf d book e s room .device) owed (sent ++ i)) h
-          (subst⁻¹ (λ (i : Stepped). Along book (i .device) owed (sent ++ tookOf (x .second) (x .packet))) (step-taken d book e s room z)
+          let h : joined (sent ++ gone (shown d m)) ≡ joined sent ++ tookOf (x .second) (x .packet) =
+          joined-append sent (gone (shown d m))
+          ∙ ap (λ (i : List ℕ). joined sent ++ i) (ap joined (gone-taken d book e s room z) ∙ listed-took (x .second) (x .packet) room (y .exact) k) in
+          subst⁻¹ (λ (i : List ℕ). Along book (stepOf d book e s room .device) owed i) h
+          (subst⁻¹ (λ (i : Stepped). Along book (i .device) owed (joined sent ++ tookOf (x .second) (x .packet))) (step-taken d book e s room z)
           (record { whole = kept-length e (d .profile) s book (d .live) (d .buffer) (c .whole); under = y .under }))
 
       event-along : AlongOf book (next g m)
-      unfolding next opens owedBy
+      unfolding next opens owedBy joined
       event-along =
           let n : d .live .book ≡ length book = sym (u .same) in
           let f = pipe-facts (d .live .pipe) (d .live .book) (u .pipe) in
           rw z (cond-elim (AlongOf book) (accepts e s) _ _ (λ t. taken-along _ [] (setup-next book (d .profile) s (d .live) (d .buffer) n (c .whole) f e t))
-          (λ t. taken-along (g .owed) (g .sent) (happens-next book (d .profile) s (d .live) (d .buffer) n (c .whole) f e (g .owed) (g .sent) t (c .under))))
+          (λ t. taken-along (g .owed) (g .sent) (happens-next book (d .profile) s (d .live) (d .buffer) n (c .whole) f e (g .owed) (joined (g .sent)) t (c .under))))
 
     happens-along : AlongOf book (next g m)
     happens-along = by (eqb (refusedBy d book room) 0) refl
@@ -565,7 +565,7 @@ along book (asks room ∷ ms) g l c = along book ms (next g (asks room)) l (asks
 
 built-along : (r : Record) (n : ℕ) (book : List ℕ) → AlongOf book (begin r n)
 unfolding buildOf
-built-along r n book = cond-elim (λ (x : Built). Along book (x .device) [] []) (eqb (buildRefusal r n) 0) _ _ (λ t. record { whole = refl; under = tt }) (λ t. record { whole = refl; under = tt })
+built-along r n book = cond-elim (λ (x : Built). Along book (x .device) [] (joined [])) (eqb (buildRefusal r n) 0) _ _ (λ t. record { whole = refl; under = tt }) (λ t. record { whole = refl; under = tt })
 
 arrives : (book : List ℕ) (t : Stage) (a : Reply) (q : Request) (b owed sent : List ℕ) → t ≡ StatusOut → UnderAt book t a q b owed sent → sent ≡ owed
 arrives book t a q b owed sent e u = subst (λ (x : Stage). UnderAt book x a q b owed sent) e u
@@ -573,8 +573,8 @@ arrives book t a q b owed sent e u = subst (λ (x : Stage). UnderAt book x a q b
 -- Build a mast, lend it one book, and let anything happen to it. Whenever an answer has been read to its end, the bytes that the
 -- laptop took since it asked are the first min(length, wLength) bytes of the answer to its own question, and nothing else.
 pub transfer : (r : Record) (n : ℕ) (book : List ℕ) (ms : List Moment) → Lends book ms
-    → (let g = follow (begin r n) ms in g .device .live .pipe .stage ≡ StatusOut → g .sent ≡ g .owed)
+    → (let g = follow (begin r n) ms in g .device .live .pipe .stage ≡ StatusOut → joined (g .sent) ≡ g .owed)
 transfer r n book ms l e =
     let g = follow (begin r n) ms in
     let p = g .device .live .pipe in
-    arrives book (p .stage) (p .reply) (p .request) (g .device .buffer) (g .owed) (g .sent) e (along book ms (begin r n) l (built-along r n book) .under)
+    arrives book (p .stage) (p .reply) (p .request) (g .device .buffer) (g .owed) (joined (g .sent)) e (along book ms (begin r n) l (built-along r n book) .under)

@@ -1,5 +1,5 @@
 -- Demand 3, transfers: what a history has sent since its last accepted SETUP, and what that SETUP was owed.
-use Prim.Native.Nat.{ℕ, min}
+use Prim.Native.Nat.{ℕ, _≤_, min}
 use mathlib.Core.Bool.{Bool, true, false, cond, _&&_}
 use mathlib.Core.List.{List, [], _∷_, _++_}
 use mathlib.Core.Path.{_≡_}
@@ -55,7 +55,7 @@ owedBy d (asks room) = []
 -- ---- what was sent
 
 -- the packet of an action, if the bus took it: it stands at the front of the room
-abbrev pub takenOf : List ℕ → Action → List ℕ
+abbrev pub takenOf : List ℕ → Action → List (List ℕ)
 takenOf room NoAction = []
 takenOf room TellResume = []
 takenOf room TellSuspend = []
@@ -67,32 +67,36 @@ takenOf room StallIn = []
 takenOf room (Halt e) = []
 takenOf room (Unhalt e) = []
 takenOf room (Address a) = []
-takenOf room (Write n) = take n room
+takenOf room (Write n) = take n room ∷ []
 takenOf room (Refused n) = []
 
-unfoldable pub joined : List ℕ → List Action → List ℕ
-joined room [] = []
-joined room (a ∷ l) = takenOf room a ++ joined room l
+unfoldable pub packets : List ℕ → List Action → List (List ℕ)
+packets room [] = []
+packets room (a ∷ l) = takenOf room a ++ packets room l
 
--- the bytes that a moment sends
-unfoldable pub gone : Shown → List ℕ
-gone (stepped p room) = joined room (slots (p .actions))
+-- the packets that a moment sends
+unfoldable pub gone : Shown → List (List ℕ)
+gone (stepped p room) = packets room (slots (p .actions))
 gone (set why) = []
 gone (handed h room) = []
+
+unfoldable pub joined : List (List ℕ) → List ℕ
+joined [] = []
+joined (p ∷ ps) = p ++ joined ps
 
 -- ---- along a history
 
 pub record Log : Type 0 where
   pub device : Device
   pub owed : List ℕ
-  pub sent : List ℕ
+  pub sent : List (List ℕ)
 
 -- an accepted SETUP begins anew
 unfoldable pub next : Log → Moment → Log
 next g m =
     let d = g .device in
-    let bytes = gone (shown d m) in
-    cond (opens d m) (record { device = after d m; owed = owedBy d m; sent = bytes }) (record { device = after d m; owed = g .owed; sent = g .sent ++ bytes })
+    let more = gone (shown d m) in
+    cond (opens d m) (record { device = after d m; owed = owedBy d m; sent = more }) (record { device = after d m; owed = g .owed; sent = g .sent ++ more })
 
 unfoldable pub follow : Log → List Moment → Log
 follow g [] = g
@@ -108,3 +112,35 @@ Lends book (asks room ∷ ms) = Lends book ms
 -- a device as building leaves it, with nothing sent
 abbrev pub begin : Record → ℕ → Log
 begin r n = record { device = buildOf r n .device; owed = []; sent = [] }
+
+-- ---- packets of a bounded length
+
+-- how long the packet of an action is, taken or refused
+abbrev pub lengthOf : Action → ℕ
+lengthOf NoAction = 0
+lengthOf TellResume = 0
+lengthOf TellSuspend = 0
+lengthOf TellReset = 0
+lengthOf UnstallOut = 0
+lengthOf UnstallIn = 0
+lengthOf StallOut = 0
+lengthOf StallIn = 0
+lengthOf (Halt e) = 0
+lengthOf (Unhalt e) = 0
+lengthOf (Address a) = 0
+lengthOf (Write n) = n
+lengthOf (Refused n) = n
+
+abbrev pub All : (Action → Type 0) → List Action → Type 0
+All P [] = Unit {0}
+All P (a ∷ l) = P a × All P l
+
+-- no packet of a moment is longer
+abbrev pub Within : ℕ → Shown → Type 0
+Within size (stepped p room) = All (λ a. lengthOf a ≤ size) (slots (p .actions))
+Within size (set why) = Unit {0}
+Within size (handed h room) = Unit {0}
+
+abbrev pub Bounded : ℕ → List Shown → Type 0
+Bounded size [] = Unit {0}
+Bounded size (x ∷ l) = Within size x × Bounded size l
