@@ -120,7 +120,7 @@ record Same (x y : Second) : Type 0 where
   buffer : x .buffer ≡ y .buffer
 
 -- what a SETUP leaves of a device, with a pipe of its own
-abbrev going : Pipe → Kept → ℕ → Live
+abbrev pub going : Pipe → Kept → ℕ → Live
 going p k n = record { pipe = p; kept = k; before = Default; book = n; built = true }
 
 module _ (r : Record) (q : Request) (size : ℕ) (quirk taken : Bool) (book : List ℕ) (p : Pipe) (n : ℕ) (b : List ℕ) (k k′ : Kept) where
@@ -217,7 +217,7 @@ module _ (r : Record) (q : Request) (tick taken : Bool) (book : List ℕ) (n : �
   quirk = r .plan .basics .quirk
 
   -- what follows the SETUP, of what outlives it
-  abbrev second : Move → Kept → Second
+  abbrev pub second : Move → Kept → Second
   second m k = followed r (m .done) tick taken book (going (m .pipe) k n) (m .buffer)
 
   abbrev Cut : Move → Type 0
@@ -288,7 +288,7 @@ unfolding handled happensTo
 data-done a r s book l b = rw (and-false (not (awake (l .kept .state)))) refl
 
 -- the device after an accepted SETUP, of any device
-setup-device : (d : Device) (a : Arrival) (book s room : List ℕ) → refusedBy d book room ≡ 0 → odd (a .setup) ≡ true → a .read ≡ Packet → length s ≡ 8
+pub setup-device : (d : Device) (a : Arrival) (book s room : List ℕ) → refusedBy d book room ≡ 0 → odd (a .setup) ≡ true → a .read ≡ Packet → length s ≡ 8
     → after d (happens (Data a) book s room)
     ≡ (let q = requestOf s in
     let h = second (d .profile) q (odd (a .done)) (takenBy (a .write)) book (length book) (beginBy (q .direction) q) (woken (d .live) .kept) in

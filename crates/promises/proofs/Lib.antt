@@ -1,3 +1,4 @@
+pub mod Count
 pub mod Cut
 pub mod Reset
 pub mod Sent

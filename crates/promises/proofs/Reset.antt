@@ -20,7 +20,7 @@ use Rattle.events.specs.declared.Event.the-variants.{Reset}
 use Rattle.events.specs.Events.{Done, handled, plain, restarted, woken, happens as happensTo}
 use Rattle.device.specs.declared.Device.{Device}
 use Rattle.device.specs.declared.Stepped.{Stepped}
-use Rattle.device.specs.Device.{refusedBy, stepOf, steppedTo, done}
+use Rattle.device.specs.Device.{refusedBy, unfitDevice, stepOf, steppedTo, done}
 use Rattle.promises.specs.History.{Moment, happens, after, seen}
 
 -- a device that a reset leaves
@@ -44,6 +44,7 @@ first false y e = absurd (omega arith)
 
 -- what a step that no number refuses tells of its device
 pub record Usable (d : Device) (book lent : List ℕ) : Type 0 where
+  pub fit : unfitDevice d ≡ 0
   pub built : d .live .built ≡ true
   pub same : length book ≡ d .live .book
   pub pipe : pipeFine (d .live .pipe) (d .live .book) ≡ true
@@ -60,6 +61,7 @@ usable d book room z =
     let a = and-left (l .built && bookFine (l .book) && stateFine (l .kept .state) (l .before)) (pipeFine (l .pipe) (l .book)) f in
     let b = and-left (l .built && bookFine (l .book)) (stateFine (l .kept .state) (l .before)) a in
     record {
+      fit = eqb-true fit 0 (t .0);
       built = and-left (l .built) (bookFine (l .book)) b;
       same = eqb-true (length book) (l .book) (t .1 .0);
       pipe = and-right (l .built && bookFine (l .book) && stateFine (l .kept .state) (l .before)) (pipeFine (l .pipe) (l .book)) f;

@@ -244,7 +244,7 @@ is-packet Fault e = absurd (false≢true e)
 
 -- ---- what an OUT request is decided to: a stall, or an effect
 
-abbrev Bare : Decision → Type 0
+abbrev pub Bare : Decision → Type 0
 Bare Stall = Unit {0}
 Bare (Status n) = ⊥
 Bare (Byte n) = ⊥
@@ -273,7 +273,7 @@ bare-standard Endpoint k q =
 bare-standard Other k q = tt
 bare-standard Reserved k q = tt
 
-bare : (t : RequestType) (k : Kept) (q : Request) → Bare (decideOut t k q)
+pub bare : (t : RequestType) (k : Kept) (q : Request) → Bare (decideOut t k q)
 unfolding decideOut
 bare Standard k q = bare-standard (q .recipient) k q
 bare Class k q = tt

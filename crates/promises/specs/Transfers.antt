@@ -11,7 +11,7 @@ use Rattle.control_pipe.specs.declared.Read.{Read}
 use Rattle.control_pipe.specs.declared.Read.the-variants.{Packet, Block, Fault}
 use Rattle.control_pipe.specs.declared.Stage.the-variants.{CompleteIn}
 use Rattle.control_pipe.specs.Stages.{fresh}
-use Rattle.answers.specs.Answers.{answer, bytesOf}
+use Rattle.answers.specs.Answers.{Answer, answer, bytesOf}
 use Rattle.effects.specs.declared.Action.{Action}
 use Rattle.effects.specs.declared.Action.the-variants.{Nothing as NoAction, Resume as TellResume, Suspend as TellSuspend, Reset as TellReset, UnstallOut, UnstallIn, StallOut, StallIn, Halt, Unhalt, Address, Write, Refused}
 use Rattle.events.specs.declared.Event.{Event}
@@ -43,12 +43,13 @@ opens d (happens e book s room) = eqb (refusedBy d book room) 0 && accepts e s
 opens d (powers on) = false
 opens d (asks room) = false
 
--- what it is owed: the first min(length, wLength) bytes of its own answer, from the record, the book and what outlives a SETUP
+-- its own answer, from the record, the book and what outlives a SETUP
+abbrev pub answerTo : Device → List ℕ → List ℕ → Answer
+answerTo d book s = answer (d .profile) (woken (d .live) .kept) (fresh CompleteIn (requestOf s) 0) (length book)
+
+-- what it is owed: the first min(length, wLength) bytes of that
 unfoldable pub owedBy : Device → Moment → List ℕ
-owedBy d (happens e book s room) =
-    let q = requestOf s in
-    let a = bytesOf (answer (d .profile) (woken (d .live) .kept) (fresh CompleteIn q 0) (length book)) book in
-    take (min (length a) (q .length)) a
+owedBy d (happens e book s room) = let bytes = bytesOf (answerTo d book s) book in take (min (length bytes) (requestOf s .length)) bytes
 owedBy d (powers on) = []
 owedBy d (asks room) = []
 

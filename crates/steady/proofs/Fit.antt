@@ -15,7 +15,7 @@ use Rattle.device.specs.declared.Built.{Built}
 use Rattle.device.specs.Device.{refusedBy, unfitDevice, withPowered, stepOf, poweredOf}
 use Rattle.steady.proofs.Keeps.{keeps}
 
-both : (x y : Bool) → _≡_ {A = ℕ} (cond (x && y) 0 9) 0 → (x ≡ true) × (y ≡ true)
+pub both : (x y : Bool) → _≡_ {A = ℕ} (cond (x && y) 0 9) 0 → (x ≡ true) × (y ≡ true)
 both true true e = (refl, refl)
 both true false e = absurd (omega arith)
 both false y e = absurd (omega arith)
