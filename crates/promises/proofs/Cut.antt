@@ -51,7 +51,7 @@ use Rattle.promises.proofs.Reset.{usable, step-taken}
 
 -- ---- an IN request leaves what outlives a SETUP
 
-abbrev Mild : Decision → Type 0
+abbrev pub Mild : Decision → Type 0
 Mild Stall = Unit {0}
 Mild (Status n) = Unit {0}
 Mild (Byte n) = Unit {0}
@@ -77,7 +77,7 @@ mild-vendor Endpoint q n = tt
 mild-vendor Other q n = tt
 mild-vendor Reserved q n = tt
 
-mild : (t : RequestType) (k : Kept) (p : Pipe) (q : Request) (n : ℕ) → Mild (decideIn t k p q n)
+pub mild : (t : RequestType) (k : Kept) (p : Pipe) (q : Request) (n : ℕ) → Mild (decideIn t k p q n)
 unfolding decideIn
 mild Standard k p q n = mild-standard (q .recipient) k p q
 mild Class k p q n = tt

@@ -1,3 +1,4 @@
+pub mod Address
 pub mod Count
 pub mod Cut
 pub mod Reset

@@ -154,11 +154,11 @@ module _ (d : Device) (book : List ℕ) (e : Event) (s room : List ℕ) where
 -- ---- no packet is longer than the packet size
 
 module _ (P : Action → Type 0) where
-  all-append : (xs ys : List Action) → All P xs → All P ys → All P (xs ++ ys)
+  pub all-append : (xs ys : List Action) → All P xs → All P ys → All P (xs ++ ys)
   all-append [] ys p q = q
   all-append (x ∷ xs) ys p q = (p .0, all-append xs ys (p .1) q)
 
-  all-slots : (xs : List Action) → P NoAction → All P xs → All P (slots (packed xs))
+  pub all-slots : (xs : List Action) → P NoAction → All P xs → All P (slots (packed xs))
   all-slots [] n p = (n, (n, (n, (n, (n, tt)))))
   all-slots (a ∷ []) n p = (p .0, (n, (n, (n, (n, tt)))))
   all-slots (a ∷ b ∷ []) n p = (p .0, (p .1 .0, (n, (n, (n, tt)))))

@@ -237,7 +237,7 @@ module _ (book : List ℕ) where
           cond-elim Half (odd (a .setup)) _ _ (λ o. odd-half (a .read) s (sym (ap (λ (x : Bool). x && (isPacket (a .read) && eqb (length s) 8)) o) ∙ e) u)
           (λ o. cond-elim Half (odd (a .out)) _ _ (λ o. out-half (p .stage) (a .read) s refl u) (λ o. still-half u))
 
-is-packet : (r : Read) → isPacket r ≡ true → r ≡ Packet
+pub is-packet : (r : Read) → isPacket r ≡ true → r ≡ Packet
 is-packet Packet e = refl
 is-packet Block e = absurd (false≢true e)
 is-packet Fault e = absurd (false≢true e)
@@ -282,7 +282,7 @@ bare ReservedType k q = tt
 
 -- ---- the second half of an event
 
-effected-stage : (e : Effect) (quirk : Bool) (l : Live) → effected e quirk l .pipe .stage ≡ l .pipe .stage
+pub effected-stage : (e : Effect) (quirk : Bool) (l : Live) → effected e quirk l .pipe .stage ≡ l .pipe .stage
 unfolding effected halting awaiting
 effected-stage NoEffect quirk l = refl
 effected-stage (Wakeup on) quirk l = refl

@@ -1,3 +1,4 @@
+pub mod Addresses
 pub mod Counts
 pub mod History
 pub mod Transfers
