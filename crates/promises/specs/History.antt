@@ -9,7 +9,7 @@ use Rattle.events.specs.declared.Event.{Event}
 use Rattle.device.specs.declared.Device.{Device}
 use Rattle.device.specs.declared.Polled.{Polled}
 use Rattle.device.specs.declared.Handed.{Handed}
-use Rattle.device.specs.Device.{stepOf, roomOf, handedOf, handedRoom, poweredOf}
+use Rattle.device.specs.Device.{refusedBy, unfitDevice, dataRefused, stepOf, roomOf, handedOf, handedRoom, poweredOf}
 
 -- what demand 3 lets outlive a SETUP: device state, remote wakeup, self-powered flag, and the halts of endpoints 1 to 15
 pub record Agree (d d′ : Device) : Type 0 where
@@ -40,7 +40,36 @@ shown d (happens e book s room) = stepped (stepOf d book e s room .polled) (room
 shown d (powers on) = set (poweredOf d on .refusal)
 shown d (asks room) = handed (handedOf d (length room)) (handedRoom d room)
 
+-- where a history leads
+unfoldable pub ends : Device → List Moment → Device
+ends d [] = d
+ends d (m ∷ ms) = ends (after d m) ms
+
 -- all that a history shows
 unfoldable pub seen : Device → List Moment → List Shown
 seen d [] = []
 seen d (m ∷ ms) = shown d m ∷ seen (after d m) ms
+
+-- ---- a refused call
+
+-- the number that refuses a moment, or 0
+abbrev pub number : Device → Moment → ℕ
+number d (happens e book s room) = refusedBy d book room
+number d (powers on) = unfitDevice d
+number d (asks room) = dataRefused d (length room)
+
+-- the room that is lent to it, the room as it leaves it, and the refusal that it tells
+abbrev pub lent : Moment → List ℕ
+lent (happens e book s room) = room
+lent (powers on) = []
+lent (asks room) = room
+
+abbrev pub left : Shown → List ℕ
+left (stepped p room) = room
+left (set why) = []
+left (handed h room) = room
+
+abbrev pub why : Shown → Refusal
+why (stepped p room) = p .refusal
+why (set r) = r
+why (handed h room) = h .refusal
