@@ -23,7 +23,7 @@ use Rattle.control_pipe.specs.declared.Stage.the-variants.{Idle, DataIn, DataIn
 use Rattle.control_pipe.specs.declared.Reply.{Reply}
 use Rattle.control_pipe.specs.declared.Pipe.{Pipe}
 use Rattle.control_pipe.specs.declared.Told.{Told}
-use Rattle.control_pipe.specs.declared.Told.the-variants.{Nothing as Silence, Write as Wrote}
+use Rattle.control_pipe.specs.declared.Told.the-variants.{Nothing as Silence, Unstalls, Write as Wrote}
 use Rattle.control_pipe.specs.declared.Source.the-variants.{Buffer, Book}
 use Rattle.control_pipe.specs.declared.Read.the-variants.{Packet}
 use Rattle.control_pipe.specs.Stages.{Move, fresh, zeros, answering, beginBy, chunk, afterChunk, advanced, sendChunk, inAt, inComplete}
@@ -217,7 +217,7 @@ unfolding packetFine member
 member-positive zero e = absurd (false≢true e)
 member-positive (suc n) e = omega arith
 
-fit-positive : (d : Device) → unfitDevice d ≡ 0 → 0 < d .profile .plan .basics .packet
+pub fit-positive : (d : Device) → unfitDevice d ≡ 0 → 0 < d .profile .plan .basics .packet
 unfolding unfit
 fit-positive d z =
     let r = d .profile in
@@ -321,7 +321,7 @@ module _ (r : Record) (q : Request) (book : List ℕ) (l : Live) (n : l .book �
   abbrev width : ℕ
   width = r .plan .basics .packet
 
-  abbrev sets : Answer → Second
+  abbrev pub sets : Answer → Second
   sets a = replied a width (r .plan .basics .quirk) true book (withPipe (fresh CompleteIn q 0) l) zeros
 
   answer-counts : (a : Answer) → speaks a ≡ true → Going width (owed q book a / width) (sets a .live .pipe) × ((packet room : List ℕ) → length (packets (front packet room) (listed (sets a .told))) ≡ 1)
@@ -354,7 +354,7 @@ silent-decision r q Describe f e = f
 silent-decision r q (Tiles n) f e = f
 silent-decision r q (Accept x) f e = false≢true e
 
-out-silent : (r : Record) (k : Kept) (q : Request) (n : ℕ) → q .direction ≡ Out → speaks (answer r k (fresh CompleteIn q 0) n) ≡ true → ⊥
+pub out-silent : (r : Record) (k : Kept) (q : Request) (n : ℕ) → q .direction ≡ Out → speaks (answer r k (fresh CompleteIn q 0) n) ≡ true → ⊥
 unfolding answer decided decideBy
 out-silent r k q n o e =
     silent-decision r q (decideOut (q .kind) k q) (bare (q .kind) k q) (sym (ap (λ (x : Direction). speaks (answerOf r q (decideBy x k (fresh CompleteIn q 0) q n))) o) ∙ e)
@@ -370,20 +370,23 @@ module _ (d : Device) (a : Arrival) (book s room : List ℕ) (z : refusedBy d bo
   u = usable d book room z
 
   -- the second half of its event
-  setup-done : q .direction ≡ In → (done d book (Data a) s .live .pipe ≡ sets (d .profile) q book (woken (d .live)) (sym (u .same)) (fit-positive d (u .fit)) (answerTo d book s) .live .pipe)
-      × (done d book (Data a) s .second ≡ sets (d .profile) q book (woken (d .live)) (sym (u .same)) (fit-positive d (u .fit)) (answerTo d book s) .told)
+  abbrev pub half : Second
+  half = sets (d .profile) q book (woken (d .live)) (sym (u .same)) (fit-positive d (u .fit)) (answerTo d book s)
+
+  pub setup-done : q .direction ≡ In
+      → done d book (Data a) s
+      ≡ record { live = half .live; buffer = half .buffer; resumed = not (awake (d .live .kept .state)); first = Unstalls; act = half .act; second = half .told; packet = half .packet; answer = true }
   unfolding dataCome beginBy followed
   setup-done i =
       let b = d .buffer in
       let l = woken (d .live) in
       let r = d .profile in
-      let half : Move → Second = λ m. followed r (m .done) (odd (a .done)) (takenBy (a .write)) book (withPipe (m .pipe) l) (m .buffer) in
-      let c = data-done a r s book (d .live) b in
-      let f = accepted a s (l .pipe) b o x e ∙ ap (λ (y : Direction). beginBy y q) i in
       let p = fresh CompleteIn q 0 in
-      let k : half (beginBy In q) ≡ sets r q book l (sym (u .same)) (fit-positive d (u .fit)) (answerTo d book s) =
-      ap₂ (λ (y : Write) (n : ℕ). replied (answer r (l .kept) p n) (r .plan .basics .packet) (r .plan .basics .quirk) (takenBy y) book (withPipe p l) zeros) w (sym (u .same)) in
-      (ap (λ (y : Done). y .live .pipe) c ∙ (ap (λ (m : Move). half m .live .pipe) f ∙ ap (λ (y : Second). y .live .pipe) k), ap (λ (y : Done). y .second) c ∙ (ap (λ (m : Move). half m .told) f ∙ ap (λ (y : Second). y .told) k))
+      let ends : Told → Second → Done = λ t h. record { live = h .live; buffer = h .buffer; resumed = not (awake (d .live .kept .state)); first = t; act = h .act; second = h .told; packet = h .packet; answer = true } in
+      let f = accepted a s (l .pipe) b o x e ∙ ap (λ (y : Direction). beginBy y q) i in
+      data-done a r s book (d .live) b
+      ∙ (ap (λ (m : Move). ends (m .told) (followed r (m .done) (odd (a .done)) (takenBy (a .write)) book (withPipe (m .pipe) l) (m .buffer))) f
+      ∙ ap₂ (λ (y : Write) (n : ℕ). ends Unstalls (replied (answer r (l .kept) p n) (r .plan .basics .packet) (r .plan .basics .quirk) (takenBy y) book (withPipe p l) zeros)) w (sym (u .same)))
 
   -- one packet goes out, and the others are to come
   setup-counts : speaks (answerTo d book s) ≡ true → Going (d .profile .plan .basics .packet) (length (owedBy d m₁) / d .profile .plan .basics .packet) (after d m₁ .live .pipe) × (length (gone (shown d m₁)) ≡ 1)
@@ -393,10 +396,10 @@ module _ (d : Device) (a : Arrival) (book s room : List ℕ) (z : refusedBy d bo
       by : (t : Direction) → q .direction ≡ t → Going (d .profile .plan .basics .packet) (length (owedBy d m₁) / d .profile .plan .basics .packet) (after d m₁ .live .pipe) × (length (gone (shown d m₁)) ≡ 1)
       by Out i = absurd (out-silent (d .profile) (woken (d .live) .kept) q (length book) i y)
       by In i =
-          let h = sets (d .profile) q book (woken (d .live)) (sym (u .same)) (fit-positive d (u .fit)) (answerTo d book s) in
+          let h = half in
           let c = answer-counts (d .profile) q book (woken (d .live)) (sym (u .same)) (fit-positive d (u .fit)) (answerTo d book s) y in
           let f = setup-done i in
-          let v = leaves d book (Data a) s room z (h .live .pipe) (h .told) 1 (f .0) (f .1) (λ packet. c .1 packet room) in
+          let v = leaves d book (Data a) s room z (h .live .pipe) (h .told) 1 (ap (λ (y : Done). y .live .pipe) f) (ap (λ (y : Done). y .second) f) (λ packet. c .1 packet room) in
           (subst⁻¹ (Going (d .profile .plan .basics .packet) (length (owedBy d m₁) / d .profile .plan .basics .packet)) (v .pipe) (c .0), v .count)
 
 -- ---- the transfer

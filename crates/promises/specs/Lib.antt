@@ -1,4 +1,5 @@
 pub mod Addresses
 pub mod Counts
+pub mod Fault
 pub mod History
 pub mod Transfers
