@@ -1,9 +1,10 @@
 -- After an accepted SETUP only what demand 3 names of the past counts. Assumes nothing.
-use Prim.Native.Nat.{ℕ, _/_, _%_}
+use Prim.Native.Nat.{ℕ, _/_, _%_, _^_}
 use mathlib.Core.Bool.{Bool, true, false, cond, not, _&&_}
-use mathlib.Core.Path.{_≡_, refl, sym, ap, ap₂, subst⁻¹, _∙_}
+use mathlib.Core.Path.{_≡_, refl, sym, ap, ap₂, subst, subst⁻¹, _∙_}
 use mathlib.Core.List.{List, []}
 use mathlib.Core.Option.{Option, some, none}
+use borrow.Author.Tests.{ne-eqb}
 use lib.Dec.{eqb, leb, ltb}
 use lib.ListN.{length}
 use Rattle.common.specs.Lists.{between}
@@ -35,7 +36,7 @@ use Rattle.requests.specs.declared.Effect.the-variants.{Nothing as NoEffect, Wa
 use Rattle.control.specs.declared.EndpointAddress.{EndpointAddress}
 use Rattle.requests.specs.declared.Decision.{Decision}
 use Rattle.requests.specs.declared.Decision.the-variants.{Stall, Status, Byte, Describe, Tiles, Accept}
-use Rattle.requests.specs.Requests.{deviceIn, interfaceIn, endpointIn, standardIn, tilesFrom, tilesIn, vendorIn, decideIn, deconfigured, deviceOut, setAddress, setConfiguration, interfaceOut, endpointOut, standardOut, decideOut, decideBy, decided}
+use Rattle.requests.specs.Requests.{haltPlace, halted, deviceIn, interfaceIn, endpointIn, standardIn, tilesFrom, tilesIn, vendorIn, decideIn, deconfigured, deviceOut, setAddress, setConfiguration, interfaceOut, endpointOut, standardOut, decideOut, decideBy, decided}
 use Rattle.answers.specs.Answers.{Answer, stall, tell, tiles, accept, told, descriptorOf, described, answerOf, answer, verdictOf, bufferOf}
 use Rattle.live.specs.declared.Live.{Live}
 use Rattle.live.specs.Live.{awake}
@@ -48,6 +49,7 @@ use Rattle.device.specs.declared.Stepped.{Stepped}
 use Rattle.device.specs.Device.{refusedBy, steppedTo, done}
 use Rattle.promises.specs.History.{Agree, Moment, happens, after, seen}
 use Rattle.promises.proofs.Reset.{usable, step-taken}
+use Rattle.promises.proofs.Halts.{cond-both, keptWith, Close, Kin, Alike, followed-kin, bit-equal, alike-seen}
 
 -- ---- an IN request leaves what outlives a SETUP
 
@@ -104,19 +106,15 @@ module _ (r : Record) (q : Request) (size : ℕ) (quirk taken : Bool) (book : Li
 
 -- ---- an OUT request's pipe and buffer do not depend on what outlives a SETUP
 
-cond-both : {A : Type 0} (R : A → A → Type 0) (b : Bool) (x y x′ y′ : A) → R x x′ → R y y′ → R (cond b x y) (cond b x′ y′)
-cond-both R true x y x′ y′ s t = s
-cond-both R false x y x′ y′ s t = t
-
 -- alike but for what is kept
-record Alike (x y : Live) : Type 0 where
+record Beside (x y : Live) : Type 0 where
   pipe : x .pipe ≡ y .pipe
   before : x .before ≡ y .before
   book : x .book ≡ y .book
   built : x .built ≡ y .built
 
 record Same (x y : Second) : Type 0 where
-  live : Alike (x .live) (y .live)
+  live : Beside (x .live) (y .live)
   buffer : x .buffer ≡ y .buffer
 
 -- what a SETUP leaves of a device, with a pipe of its own
@@ -130,33 +128,33 @@ module _ (r : Record) (q : Request) (size : ℕ) (quirk taken : Bool) (book : Li
   abbrev other : Live
   other = going p k′ n
 
-  itself : Alike one other
+  itself : Beside one other
   itself = record { pipe = refl; before = refl; book = refl; built = refl }
 
-  halts-alike : (e : EndpointAddress) (on : Bool) → Alike (halting e on one) (halting e on other)
+  halts-alike : (e : EndpointAddress) (on : Bool) → Beside (halting e on one) (halting e on other)
   unfolding halting
   halts-alike e on =
-      cond-both Alike (eqb (e .0 % 16) 0) _ _ _ _
-      (cond-both Alike (ltb (e .0) 128) _ _ _ _ (record { pipe = refl; before = refl; book = refl; built = refl }) (record { pipe = refl; before = refl; book = refl; built = refl }))
+      cond-both Beside (eqb (e .0 % 16) 0) _ _ _ _
+      (cond-both Beside (ltb (e .0) 128) _ _ _ _ (record { pipe = refl; before = refl; book = refl; built = refl }) (record { pipe = refl; before = refl; book = refl; built = refl }))
       (record { pipe = refl; before = refl; book = refl; built = refl })
 
-  effects-alike : (e : Effect) → Alike (effected e quirk one) (effected e quirk other)
+  effects-alike : (e : Effect) → Beside (effected e quirk one) (effected e quirk other)
   unfolding effected awaiting
   effects-alike NoEffect = itself
   effects-alike (Wakeup on) = record { pipe = refl; before = refl; book = refl; built = refl }
   effects-alike (HaltIt e) = halts-alike e true
   effects-alike (UnhaltIt e) = halts-alike e false
-  effects-alike (TakeAddress a) = cond-both Alike quirk _ _ _ _ (record { pipe = refl; before = refl; book = refl; built = refl }) (record { pipe = refl; before = refl; book = refl; built = refl })
+  effects-alike (TakeAddress a) = cond-both Beside quirk _ _ _ _ (record { pipe = refl; before = refl; book = refl; built = refl }) (record { pipe = refl; before = refl; book = refl; built = refl })
   effects-alike (Turn s) = record { pipe = refl; before = refl; book = refl; built = refl }
 
-  unchanged : (s : State) (l : Live) → Alike (effected (deconfigured s) quirk l) l
+  unchanged : (s : State) (l : Live) → Beside (effected (deconfigured s) quirk l) l
   unfolding effected
   unchanged Default l = record { pipe = refl; before = refl; book = refl; built = refl }
   unchanged Addressed l = record { pipe = refl; before = refl; book = refl; built = refl }
   unchanged Configured l = record { pipe = refl; before = refl; book = refl; built = refl }
   unchanged Suspend l = record { pipe = refl; before = refl; book = refl; built = refl }
 
-  deconfigured-alike : (s s′ : State) → Alike (effected (deconfigured s) quirk one) (effected (deconfigured s′) quirk other)
+  deconfigured-alike : (s s′ : State) → Beside (effected (deconfigured s) quirk one) (effected (deconfigured s′) quirk other)
   deconfigured-alike s s′ =
       let x = unchanged s one in
       let y = unchanged s′ other in
@@ -165,7 +163,7 @@ module _ (r : Record) (q : Request) (size : ℕ) (quirk taken : Bool) (book : Li
   abbrev Both : Decision → Decision → Type 0
   Both d d′ = Same (replied (answerOf r q d) size quirk taken book one b) (replied (answerOf r q d′) size quirk taken book other b)
 
-  both-accept : (e e′ : Effect) → Alike (effected e quirk one) (effected e′ quirk other) → Both (Accept e) (Accept e′)
+  both-accept : (e e′ : Effect) → Beside (effected e quirk one) (effected e′ quirk other) → Both (Accept e) (Accept e′)
   unfolding answerOf setOut
   both-accept e e′ a =
       record {
@@ -221,16 +219,18 @@ module _ (r : Record) (q : Request) (tick taken : Bool) (book : List ℕ) (n : �
   second m k = followed r (m .done) tick taken book (going (m .pipe) k n) (m .buffer)
 
   abbrev Cut : Move → Type 0
-  Cut m = (k k′ : Kept) → second m k .live .kept ≡ second m k′ .live .kept → (second m k .live ≡ second m k′ .live) × (second m k .buffer ≡ second m k′ .buffer)
+  Cut m = (k k′ : Kept) → Close (second m k .live .kept) (second m k′ .live .kept) → Kin (second m k .live) (second m k′ .live) × (second m k′ .buffer ≡ second m k .buffer)
 
-  same-cut : (x y : Second) → Same x y → x .live .kept ≡ y .live .kept → (x .live ≡ y .live) × (x .buffer ≡ y .buffer)
-  same-cut x y s e =
+  same-cut : (x y : Second) → Same x y → Close (x .live .kept) (y .live .kept) → Kin (x .live) (y .live) × (y .buffer ≡ x .buffer)
+  same-cut x y s c =
       let a = s .live in
-      let u : x .live ≡ record { pipe = y .live .pipe; kept = y .live .kept; before = x .live .before; book = x .live .book; built = x .live .built } =
-      ap₂ {C = Live} (λ (p : Pipe) (k : Kept). record { pipe = p; kept = k; before = x .live .before; book = x .live .book; built = x .live .built }) (a .pipe) e in
-      let v = ap₂ {C = Live} (λ (t : State) (m : ℕ). record { pipe = y .live .pipe; kept = y .live .kept; before = t; book = m; built = x .live .built }) (a .before) (a .book) in
-      let w = ap {B = Live} (λ (b : Bool). record { pipe = y .live .pipe; kept = y .live .kept; before = y .live .before; book = y .live .book; built = b }) (a .built) in
-      (u ∙ (v ∙ w), s .buffer)
+      let made : Pipe → Kept → State → ℕ → Bool → Live = λ p k t m b. record { pipe = p; kept = k; before = t; book = m; built = b } in
+      let i = x .live in
+      let j = y .live in
+      let same = ap₂ (λ (p : Pipe) (k : Kept). made p k (j .before) (j .book) (j .built)) (sym (a .pipe)) (c .same)
+      ∙ (ap₂ (λ (t : State) (m : ℕ). made (i .pipe) (keptWith (j .kept .halts) (i .kept)) t m (j .built)) (sym (a .before)) (sym (a .book))
+      ∙ ap (λ (b : Bool). made (i .pipe) (keptWith (j .kept .halts) (i .kept)) (i .before) (i .book) b) (sym (a .built))) in
+      (record { halts = j .kept .halts; live = same; bits = c .bits }, sym (s .buffer))
 
   -- IN: what outlives the SETUP is as it was
   in-kept : q .direction ≡ In → (k : Kept) → second (beginBy In q) k .live .kept ≡ k
@@ -241,9 +241,12 @@ module _ (r : Record) (q : Request) (tick taken : Bool) (book : List ℕ) (n : �
       ∙ left r q size quirk taken book (going p k n) zeros (decideIn (q .kind) k p q n) (mild (q .kind) k p q n)
 
   in-cut : q .direction ≡ In → Cut (beginBy In q)
-  in-cut d k k′ e =
-      let z : k ≡ k′ = sym (in-kept d k) ∙ (e ∙ in-kept d k′) in
-      (ap (λ (x : Kept). second (beginBy In q) x .live) z, ap (λ (x : Kept). second (beginBy In q) x .buffer) z)
+  unfolding beginBy
+  in-cut d k k′ c =
+      let z : Close k k′ = subst (λ (x : Kept). Close x k′) (in-kept d k) (subst (λ (x : Kept). Close (second (beginBy In q) k .live .kept) x) (in-kept d k′) c) in
+      let m = beginBy In q in
+      let f = followed-kin (going (m .pipe) k n) (k′ .halts) (z .bits) r (m .done) tick taken book (m .buffer) in
+      subst⁻¹ (λ (x : Kept). Kin (second m k .live) (second m x .live) × (second m x .buffer ≡ second m k .buffer)) (z .same) (f .live, f .buffer)
 
   -- OUT without data: decided at once
   out-decided : q .direction ≡ Out → (k k′ : Kept) → Same (second (opened (fresh CompleteOut q 0) true) k) (second (opened (fresh CompleteOut q 0) true) k′)
@@ -307,30 +310,48 @@ setup-device d a book s room z o r e =
     ∙ (ap (λ (m : Move). made (followed (d .profile) (m .done) tick taken book (withPipe (m .pipe) w) (m .buffer))) (accepted a s (w .pipe) (d .buffer) o r e)
     ∙ ap₂ (λ (b : Bool) (n : ℕ). made (followed (d .profile) (M .done) tick taken book (record { pipe = M .pipe; kept = w .kept; before = Default; book = n; built = b }) (M .buffer))) (u .built) (sym (u .same))))
 
-kept-equal : (d d′ : Device) → Agree d d′ → d .live .kept ≡ d′ .live .kept
-kept-equal d d′ a =
-    ap₂ {C = Kept} (λ (t : State) (w : Bool). record { state = t; wakeup = w; powered = d .live .kept .powered; halts = d .live .kept .halts }) (a .state) (a .wakeup)
-    ∙ ap₂ {C = Kept} (λ (p : Bool) (h : ℕ). record { state = d′ .live .kept .state; wakeup = d′ .live .kept .wakeup; powered = p; halts = h }) (a .powered) (a .halts)
+close : (d d′ : Device) → Agree d d′ → Close (d .live .kept) (d′ .live .kept)
+unfolding halted
+close d d′ a =
+    let k = d .live .kept in
+    let k′ = d′ .live .kept in
+    record {
+      same = ap₂ {C = Kept} (λ (t : State) (w : Bool). record { state = t; wakeup = w; powered = k′ .powered; halts = k′ .halts }) (sym (a .state)) (sym (a .wakeup))
+      ∙ ap {B = Kept} (λ (p : Bool). record { state = k .state; wakeup = k .wakeup; powered = p; halts = k′ .halts }) (sym (a .powered));
+      bits = record { bit = λ e n. bit-equal (k .halts / 2 ^ haltPlace e) (k′ .halts / 2 ^ haltPlace e) (rw (ne-eqb (e .0 % 16) 0 n) at (a .halts e n)) };
+    }
 
 -- Two masts of one record take one SETUP of eight bytes, whatever either did before: asleep or awake, in any stage, with any address
--- pending. If they then agree on device state, remote wakeup, self-powered flag and halts, they are the same mast.
+-- pending. If they then agree on device state, remote wakeup, self-powered flag and halts of endpoints 1 to 15, they are alike: a
+-- bit that is no endpoint's may differ, and nothing else.
 pub setup-forgets : (d d′ : Device) (a : Arrival) (book s room : List ℕ) → d .profile ≡ d′ .profile → refusedBy d book room ≡ 0 → refusedBy d′ book room ≡ 0
     → odd (a .setup) ≡ true → a .read ≡ Packet → length s ≡ 8
     → Agree (after d (happens (Data a) book s room)) (after d′ (happens (Data a) book s room))
-    → after d (happens (Data a) book s room) ≡ after d′ (happens (Data a) book s room)
+    → Alike (after d (happens (Data a) book s room)) (after d′ (happens (Data a) book s room))
 setup-forgets d d′ a book s room p z z′ o r e k =
     let q = requestOf s in
     let tick = odd (a .done) in
     let taken = takenBy (a .write) in
+    let made : Second → Device = λ h. record { profile = d .profile; live = h .live; buffer = h .buffer } in
+    let half : Record → Kept → Second = λ x k. second x q tick taken book (length book) (beginBy (q .direction) q) k in
     let f = setup-device d a book s room z o r e in
-    let g = setup-device d′ a book s room z′ o r e ∙ ap (λ (x : Record). let h = second x q tick taken book (length book) (beginBy (q .direction) q) (woken (d′ .live) .kept) in record { profile = x; live = h .live; buffer = h .buffer }) (sym p) in
+    let g = setup-device d′ a book s room z′ o r e ∙ ap (λ (x : Record). let h = half x (woken (d′ .live) .kept) in record { profile = x; live = h .live; buffer = h .buffer }) (sym p) in
+    let x = half (d .profile) (woken (d .live) .kept) in
+    let y = half (d .profile) (woken (d′ .live) .kept) in
     let c = cut (d .profile) q tick taken book (length book) (woken (d .live) .kept) (woken (d′ .live) .kept)
-    (sym (ap (λ (x : Device). x .live .kept) f) ∙ (kept-equal (after d (happens (Data a) book s room)) (after d′ (happens (Data a) book s room)) k ∙ ap (λ (x : Device). x .live .kept) g)) in
-    f ∙ (ap₂ {C = Device} (λ (l : Live) (b : List ℕ). record { profile = d .profile; live = l; buffer = b }) (c .0) (c .1) ∙ sym g)
+    (close (made x) (made y) (subst (λ (i : Device). Agree i (made y)) f (subst (λ (i : Device). Agree (after d (happens (Data a) book s room)) i) g k))) in
+    let w : Alike (made x) (made y) =
+    record {
+      halts = c .0 .halts;
+      same = ap₂ {C = Device} (λ (l : Live) (b : List ℕ). record { profile = d .profile; live = l; buffer = b }) (c .0 .live) (c .1);
+      bits = c .0 .bits;
+    } in
+    subst⁻¹ (λ (i : Device). Alike i (after d′ (happens (Data a) book s room))) f (subst⁻¹ (λ (i : Device). Alike (made x) i) g w)
 
 -- So the bytes of an old answer can't open a new one: no later event, setting or call for data shows what was before the SETUP.
 pub setup-seen : (d d′ : Device) (a : Arrival) (book s room : List ℕ) → d .profile ≡ d′ .profile → refusedBy d book room ≡ 0 → refusedBy d′ book room ≡ 0
     → odd (a .setup) ≡ true → a .read ≡ Packet → length s ≡ 8
     → Agree (after d (happens (Data a) book s room)) (after d′ (happens (Data a) book s room))
     → (ms : List Moment) → seen (after d (happens (Data a) book s room)) ms ≡ seen (after d′ (happens (Data a) book s room)) ms
-setup-seen d d′ a book s room p z z′ o r e k ms = ap (λ (x : Device). seen x ms) (setup-forgets d d′ a book s room p z z′ o r e k)
+setup-seen d d′ a book s room p z z′ o r e k ms =
+    sym (alike-seen ms (after d (happens (Data a) book s room)) (after d′ (happens (Data a) book s room)) (setup-forgets d d′ a book s room p z z′ o r e k))

@@ -3,6 +3,7 @@ pub mod Count
 pub mod Cut
 pub mod Fault
 pub mod Good
+pub mod Halts
 pub mod Reset
 pub mod Sent
 pub mod Transfer

@@ -1,22 +1,25 @@
 -- Document 01, "What is to be nailed down", demand 3: histories of a device, and what can be seen of them.
-use Prim.Native.Nat.{ℕ}
+use Prim.Native.Nat.{ℕ, _%_}
 use mathlib.Core.Bool.{Bool}
 use mathlib.Core.List.{List, [], _∷_}
 use mathlib.Core.Path.{_≡_}
 use lib.ListN.{length}
 use Rattle.common.specs.declared.Refusal.{Refusal}
+use Rattle.control.specs.declared.EndpointAddress.{EndpointAddress}
+use Rattle.requests.specs.Requests.{halted}
 use Rattle.events.specs.declared.Event.{Event}
 use Rattle.device.specs.declared.Device.{Device}
 use Rattle.device.specs.declared.Polled.{Polled}
 use Rattle.device.specs.declared.Handed.{Handed}
 use Rattle.device.specs.Device.{refusedBy, unfitDevice, dataRefused, stepOf, roomOf, handedOf, handedRoom, poweredOf}
 
--- what demand 3 lets outlive a SETUP: device state, remote wakeup, self-powered flag, and the halts of endpoints 1 to 15
+-- what demand 3 lets outlive a SETUP: device state, remote wakeup, self-powered flag, and the halts of endpoints 1 to 15 (an
+-- endpoint's number is its address modulo 16)
 pub record Agree (d d′ : Device) : Type 0 where
   pub state : d .live .kept .state ≡ d′ .live .kept .state
   pub wakeup : d .live .kept .wakeup ≡ d′ .live .kept .wakeup
   pub powered : d .live .kept .powered ≡ d′ .live .kept .powered
-  pub halts : d .live .kept .halts ≡ d′ .live .kept .halts
+  pub halts : (e : EndpointAddress) → (e .0 % 16 ≡ 0 → ⊥) → halted (d .live .kept) (d .live .pipe) e ≡ halted (d′ .live .kept) (d′ .live .pipe) e
 
 -- a moment: an event with the book, the packet and the room lent to it; a setting of the self-powered flag; or data asked for
 pub data Moment : Type 0 where
