@@ -1,10 +1,9 @@
 -- An address is set only where demand 3 lets it be. Assumes nothing.
-use Prim.Native.Nat.{ℕ, _+_, _-_, _/_, _%_, _≤_, min}
+use Prim.Native.Nat.{ℕ, _+_, _-_, _/_, _%_}
 use mathlib.Core.Bool.{Bool, true, false, cond, not, _&&_, false≢true}
-use mathlib.Core.Path.{_≡_, refl, sym, ap, ap₂, subst, subst⁻¹, _∙_}
+use mathlib.Core.Path.{_≡_, refl, sym, ap, subst, subst⁻¹, _∙_}
 use mathlib.Core.List.{List, [], _∷_, _++_}
 use mathlib.Core.Option.{Option, some, none}
-use native.Mathlib.Omega.{arith}
 use borrow.Author.Tests.{eqb-true}
 use lib.Dec.{eqb, leb, ltb}
 use lib.ListN.{length}
@@ -20,19 +19,17 @@ use Rattle.control.specs.declared.RequestType.the-variants.{Standard, Class, Ve
 use Rattle.control.specs.declared.Recipient.{Recipient}
 use Rattle.control.specs.declared.Recipient.the-variants.{Device as OfDevice, Interface, Endpoint, Other, Reserved}
 use Rattle.control.specs.declared.Request.{Request}
-use Rattle.control.specs.Setup.{requestOf, parsed}
+use Rattle.control.specs.Setup.{requestOf}
 use Rattle.record.specs.declared.Record.{Record}
 use Rattle.limits.specs.Limits.{lowest}
-use Rattle.control_pipe.specs.Sizes.{bufferRoom}
 use Rattle.control_pipe.specs.declared.Stage.{Stage}
 use Rattle.control_pipe.specs.declared.Stage.the-variants.{Idle, DataIn, DataInZlp, DataInLast, CompleteIn, StatusOut, CompleteOut, DataOut, StatusIn, Error}
-use Rattle.control_pipe.specs.declared.Read.{Read}
-use Rattle.control_pipe.specs.declared.Read.the-variants.{Packet, Block, Fault}
+use Rattle.control_pipe.specs.declared.Read.the-variants.{Packet}
 use Rattle.control_pipe.specs.declared.Told.{Told}
 use Rattle.control_pipe.specs.declared.Told.the-variants.{Nothing as Silence, Unstalls, UnstallsStalls, Stalls, UnstallOut as UnstalledOut, Write as Wrote, Refused as Declined}
 use Rattle.control_pipe.specs.declared.Pipe.{Pipe}
 use Rattle.control_pipe.specs.declared.Source.the-variants.{Buffer, Book}
-use Rattle.control_pipe.specs.Stages.{Move, at, answering, fresh, zeros, still, stalled, grown, filled, chunk, afterChunk, advanced, sendChunk, beginOut, beginBy, begun, setupCome, addPacket, addRead, endRead, badRead, outAt, outCome, inAt, inComplete}
+use Rattle.control_pipe.specs.Stages.{sendEmpty, Move, at, answering, fresh, zeros, still, stalled, grown, filled, chunk, afterChunk, advanced, sendChunk, beginBy, inComplete}
 use Rattle.requests.specs.declared.State.{State}
 use Rattle.requests.specs.declared.State.the-variants.{Default, Addressed, Configured, Suspend as Suspended}
 use Rattle.requests.specs.declared.Kept.{Kept}
@@ -50,19 +47,20 @@ use Rattle.effects.specs.Effects.{Second, withPipe, halting, awaiting, effected
 use Rattle.events.specs.declared.Arrival.{Arrival}
 use Rattle.events.specs.declared.Event.{Event}
 use Rattle.events.specs.declared.Event.the-variants.{Nothing, Reset, Suspend, Resume, Data}
-use Rattle.events.specs.Events.{Done, odd, arrived, replied, takenBy, followed, dataCome, woken, dull, happens as happensTo, handled, listed, alone, toldBy}
+use Rattle.events.specs.Events.{Done, odd, arrived, replied, takenBy, followed, dataCome, woken, happens as happensTo, handled, listed, alone, toldBy}
 use Rattle.actions.specs.Actions.{packed, slots}
 use Rattle.device.specs.declared.Device.{Device}
 use Rattle.device.specs.declared.Stepped.{Stepped}
 use Rattle.device.specs.declared.Built.{Built}
-use Rattle.device.specs.Device.{buildRefusal, buildOf, refusedBy, unfitDevice, stepOf, steppedTo, poweredOf, done}
+use Rattle.device.specs.Device.{buildRefusal, buildOf, refusedBy, unfitDevice, steppedTo, poweredOf, done}
+use Rattle.steady.proofs.Moves.{begin-elim, arrived-elim, in-elim}
 use Rattle.promises.specs.History.{Moment, happens, powers, asks, after, shown}
 use Rattle.promises.specs.Transfers.{isPacket, accepts, All}
 use Rattle.promises.specs.Addresses.{lastBy, lastAfter, Tale, further, tale, opening, Names, Named, Acts, Addresses, tickOf, ticks, Completed, decidedBy, decides}
 use Rattle.promises.proofs.Reset.{step-taken}
-use Rattle.promises.proofs.Cut.{Mild, mild, accepted, data-done}
+use Rattle.promises.proofs.Cut.{Mild, mild, accepted}
 use Rattle.promises.proofs.Sent.{step-refused, kept-profile, all-append, all-slots}
-use Rattle.promises.proofs.Transfer.{is-packet, effected-stage}
+use Rattle.promises.proofs.Transfer.{accepts-setup, is-packet, effected-stage}
 
 -- ---- a request that is accepted with an address names it
 
@@ -288,37 +286,32 @@ module _ (quirk : Bool) (old last : Option Request) (tick : Bool) (before : Stag
     owns : Owns (m .pipe .stage) last (m .pipe .request)
     ends : m .done ≡ true → (m .pipe .stage ≡ Idle) × X
 
-  module _ (p : Pipe) (b : List ℕ) (X : Type 0) where
-    still-in : (t : Stage) → p .stage ≡ t → Owns t last (p .request) → InKind p X (still p b)
-    still-in t e o = record { pending = refl; owns = subst⁻¹ (λ (x : Stage). Owns x last (p .request)) e o; ends = λ z. absurd (false≢true z) }
+  module _ (p : Pipe) (b : List ℕ) (X : Type 0) (o : Owns (p .stage) last (p .request)) (x : AtStatus (p .stage) X) where
+    still-in : InKind p X (still p b)
+    still-in = record { pending = refl; owns = o; ends = λ z. absurd (false≢true z) }
 
-    chunk-in : (size : ℕ) (taken : Bool) (book : List ℕ) → p .stage ≡ DataIn → InKind p X (sendChunk size taken book p b)
+    chunk-in : (size : ℕ) (taken : Bool) (book : List ℕ) → InKind p X (sendChunk size taken book p b)
     unfolding sendChunk advanced
-    chunk-in size true book e = record { pending = refl; owns = chunk-free size (chunk size (p .reply)) p (p .request); ends = λ z. absurd (false≢true z) }
-    chunk-in size false book e = record { pending = refl; owns = subst⁻¹ (λ (t : Stage). Owns t last (p .request)) e tt; ends = λ z. absurd (false≢true z) }
+    chunk-in size true book = record { pending = refl; owns = chunk-free size (chunk size (p .reply)) p (p .request); ends = λ z. absurd (false≢true z) }
+    chunk-in size false book = record { pending = refl; owns = o; ends = λ z. absurd (false≢true z) }
 
-    in-kind : (t : Stage) (size : ℕ) (taken : Bool) (book : List ℕ) → p .stage ≡ t → Owns t last (p .request) → AtStatus t X → InKind p X (inAt t size taken book p b)
-    unfolding inAt
-    in-kind Idle size taken book e o x = still-in Idle e o
-    in-kind DataIn size taken book e o x = chunk-in size taken book e
-    in-kind DataInZlp size true book e o x = record { pending = refl; owns = tt; ends = λ z. absurd (false≢true z) }
-    in-kind DataInZlp size false book e o x = let y = still-in DataInZlp e o in record { pending = refl; owns = y .owns; ends = λ z. absurd (false≢true z) }
-    in-kind DataInLast size taken book e o x = record { pending = refl; owns = tt; ends = λ z. absurd (false≢true z) }
-    in-kind CompleteIn size taken book e o x = still-in CompleteIn e o
-    in-kind StatusOut size taken book e o x = still-in StatusOut e o
-    in-kind CompleteOut size taken book e o x = still-in CompleteOut e o
-    in-kind DataOut size taken book e o x = still-in DataOut e o
-    in-kind StatusIn size taken book e o x = record { pending = refl; owns = tt; ends = λ z. (refl, x) }
-    in-kind Error size taken book e o x = still-in Error e o
+    empty-in : (taken : Bool) → InKind p X (sendEmpty taken DataInLast p b)
+    empty-in true = record { pending = refl; owns = tt; ends = λ z. absurd (false≢true z) }
+    empty-in false = record { pending = refl; owns = o; ends = λ z. absurd (false≢true z) }
+
+    in-kind : (size : ℕ) (taken : Bool) (book : List ℕ) → InKind p X (inComplete size taken book p b)
+    in-kind size taken book =
+        in-elim (InKind p X) p b still-in size taken book (λ e. chunk-in size taken book) (λ e. empty-in taken) (λ e. record { pending = refl; owns = tt; ends = λ z. absurd (false≢true z) })
+        (λ e. record { pending = refl; owns = tt; ends = λ z. (refl, subst (λ (t : Stage). AtStatus t X) e x) })
 
   module _ (l : Live) (b : List ℕ) (f : Pends last (l .pipe .pending)) (o : Owns (l .pipe .stage) last (l .pipe .request)) where
     -- without the quirk, and only then, a pending address is taken
     ticked-kind : (size : ℕ) (taken : Bool) (book : List ℕ) → AtStatus (l .pipe .stage) ((before ≡ StatusIn) × ((tick ≡ true) × (last ≡ old))) → SecondKind false (ticked size quirk taken book l b)
-    unfolding ticked inComplete
+    unfolding ticked
     ticked-kind size taken book x =
         let p = l .pipe in
-        let m = inAt (p .stage) size taken book p b in
-        let k = in-kind p b ((before ≡ StatusIn) × ((tick ≡ true) × (last ≡ old))) (p .stage) size taken book refl o x in
+        let m = inComplete size taken book p b in
+        let k = in-kind p b ((before ≡ StatusIn) × ((tick ≡ true) × (last ≡ old))) o x size taken book in
         let g : Pends last (m .pipe .pending) = subst⁻¹ (Pends last) (k .pending) f in
         cond-elim (SecondKind false) (m .done && not quirk && not (eqb (m .pipe .pending .0) 0)) _ _
         (λ t. let u = and-left (m .done && not quirk) (not (eqb (m .pipe .pending .0) 0)) t in
@@ -405,49 +398,11 @@ module _ (p : Pipe) (last : Option Request) (b : List ℕ) where
       by true z = record { pending = e; waits = λ y. absurd (false≢true (sym y ∙ z)); decides = λ y. (o, rw z tt) }
       by false z = record { pending = e; waits = λ y. (rw z o, rw z tt); decides = λ y. absurd (false≢true (sym z ∙ y)) }
 
-  module _ (o : Owns (p .stage) last (p .request)) where
-    end-first : (r : Read) (n : ℕ) → First (endRead r n p b)
-    unfolding endRead
-    end-first Packet n = cond-elim (λ (x : Pipe). First (still x b)) (eqb n 0) (at Idle p) p (λ e. idle-first) (λ e. still-first o)
-    end-first Block n = still-first o
-    end-first Fault n = still-first o
-
-    bad-first : (r : Read) (n : ℕ) → First (badRead r n p b)
-    unfolding badRead
-    bad-first Packet n = cond-elim First (eqb n 0) _ _ (λ e. stalled-first) (λ e. still-first o)
-    bad-first Block n = still-first o
-    bad-first Fault n = still-first o
-
-    add-first : (r : Read) (s : List ℕ) → last ≡ some (p .request) → First (addRead r s p b)
-    unfolding addRead addPacket
-    add-first Packet s e = cond-elim First (leb (length s) (bufferRoom - p .coming .held)) _ _ (λ t. filled-first (placed b (p .coming .held) s) (grown (length s) p) refl e) (λ t. stalled-first)
-    add-first Block s e = still-first o
-    add-first Fault s e = stalled-first
-
-    out-first : (t : Stage) (r : Read) (s : List ℕ) → p .stage ≡ t → First (outAt t r s p b)
-    unfolding outAt
-    out-first Idle r s e = bad-first r (length s)
-    out-first DataIn r s e = end-first r (length s)
-    out-first DataInZlp r s e = end-first r (length s)
-    out-first DataInLast r s e = end-first r (length s)
-    out-first CompleteIn r s e = bad-first r (length s)
-    out-first StatusOut r s e = end-first r (length s)
-    out-first CompleteOut r s e = bad-first r (length s)
-    out-first DataOut r s e = add-first r s (subst (λ (t : Stage). Owns t last (p .request)) e o)
-    out-first StatusIn r s e = bad-first r (length s)
-    out-first Error r s e = bad-first r (length s)
-
-    odd-first : (r : Read) (s : List ℕ) → isPacket r && eqb (length s) 8 ≡ false → First (setupCome r s p b)
-    unfolding setupCome begun parsed
-    odd-first Packet s e = rw e (still-first o)
-    odd-first Block s e = still-first o
-    odd-first Fault s e = still-first o
-
-    arrived-first : (a : Arrival) (s : List ℕ) → accepts (Data a) s ≡ false → First (arrived a s p b)
-    unfolding arrived outCome
-    arrived-first a s e =
-        cond-elim First (odd (a .setup)) _ _ (λ t. odd-first (a .read) s (sym (ap (λ (x : Bool). x && (isPacket (a .read) && eqb (length s) 8)) t) ∙ e))
-        (λ t. cond-elim First (odd (a .out)) _ _ (λ t. out-first (p .stage) (a .read) s refl) (λ t. still-first o))
+  arrived-first : Owns (p .stage) last (p .request) → (a : Arrival) (s : List ℕ) → accepts (Data a) s ≡ false → First (arrived a s p b)
+  arrived-first o a s e =
+      arrived-elim First p b (still-first o) s idle-first stalled-first
+      (λ x l. filled-first (placed b (p .coming .held) s) (grown (length s) p) refl (subst (λ (t : Stage). Owns t last (p .request)) x o))
+      a (λ t r k. absurd (false≢true (sym e ∙ accepts-setup a s t r k)))
 
 -- ---- the whole event
 
@@ -472,15 +427,15 @@ module _ (r : Record) (s book : List ℕ) where
 
   module _ (l : Live) (b : List ℕ) (old : Option Request) (before : Stage) where
     -- an accepted SETUP
-    begin-kind : (q : Request) (tick taken : Bool) (d : Direction)
-        → let m = beginBy d q in SecondKind (r .plan .basics .quirk) old (some q) tick before (m .done) (followed r (m .done) tick taken book (withPipe (m .pipe) l) (m .buffer))
-    unfolding beginBy beginOut
-    begin-kind q tick taken In = follow-decides r old (some q) before book taken (withPipe (fresh CompleteIn q 0) l) zeros (λ z. absurd (false≢true (sym z))) tick refl tt
-    begin-kind q tick taken Out =
+    begin-kind : (q : Request) (tick taken : Bool)
+        → let m = beginBy (q .direction) q in SecondKind (r .plan .basics .quirk) old (some q) tick before (m .done) (followed r (m .done) tick taken book (withPipe (m .pipe) l) (m .buffer))
+    begin-kind q tick taken =
         let P : Move → Type 0 = λ m. SecondKind (r .plan .basics .quirk) old (some q) tick before (m .done) (followed r (m .done) tick taken book (withPipe (m .pipe) l) (m .buffer)) in
-        cond-elim P (eqb (q .length) 0) _ _ (λ e. follow-decides r old (some q) before book taken (withPipe (fresh CompleteOut q 0) l) zeros (λ z. absurd (false≢true (sym z))) tick refl tt)
-        (λ e. cond-elim P (leb (q .length) bufferRoom) _ _ (λ e. follow-waits r old (some q) before book taken (withPipe (fresh DataOut q (q .length)) l) zeros (λ z. absurd (false≢true (sym z))) tick refl tt)
-        (λ e. follow-waits r old (some q) before book taken (withPipe (stalled (fresh Error q 0) zeros .pipe) l) zeros (λ z. absurd (false≢true (sym z))) tick tt tt))
+        let f : Pends (some q) (record { 0 = 0 }) = λ z. absurd (false≢true (sym z)) in
+        begin-elim P q (λ d. follow-decides r old (some q) before book taken (withPipe (fresh CompleteIn q 0) l) zeros f tick refl tt)
+        (λ d. follow-decides r old (some q) before book taken (withPipe (fresh CompleteOut q 0) l) zeros f tick refl tt)
+        (λ d k. follow-waits r old (some q) before book taken (withPipe (fresh DataOut q (q .length)) l) zeros f tick refl tt)
+        (follow-waits r old (some q) before book taken (withPipe (stalled (fresh Error q 0) zeros .pipe) l) zeros f tick tt tt)
 
     begins : (resumed : Bool) (a : Arrival) → odd (a .setup) ≡ true → a .read ≡ Packet → length s ≡ 8
         → DoneKind old (some (requestOf s)) (arrived a s (l .pipe) b .done) (odd (a .done)) before (dataCome r resumed a s book l b)
@@ -488,7 +443,7 @@ module _ (r : Record) (s book : List ℕ) where
     begins resumed a x y z =
         let q = requestOf s in
         let P : Move → Type 0 = λ m. SecondKind (r .plan .basics .quirk) old (some q) (odd (a .done)) before (m .done) (followed r (m .done) (odd (a .done)) (takenBy (a .write)) book (withPipe (m .pipe) l) (m .buffer)) in
-        let k : P (arrived a s (l .pipe) b) = subst⁻¹ P (accepted a s (l .pipe) b x y z) (begin-kind q (odd (a .done)) (takenBy (a .write)) (q .direction)) in
+        let k : P (arrived a s (l .pipe) b) = subst⁻¹ P (accepted a s (l .pipe) b x y z) (begin-kind q (odd (a .done)) (takenBy (a .write))) in
         record { pends = k .pends; owns = k .owns; acts = k .acts }
 
   -- whatever happens

@@ -44,12 +44,12 @@ use Rattle.events.specs.declared.Event.the-variants.{Nothing, Reset, Suspend, R
 use Rattle.events.specs.Events.{Done, odd, arrived, replied, takenBy, followed, dataCome, woken, listed}
 use Rattle.device.specs.declared.Device.{Device}
 use Rattle.device.specs.declared.Stepped.{Stepped}
-use Rattle.device.specs.Device.{refusedBy, unfitDevice, stepOf, done}
+use Rattle.device.specs.Device.{refusedBy, unfitDevice, done}
 use Rattle.steady.proofs.Kept.{kept-book}
 use Rattle.steady.proofs.Fit.{both, step-fit}
 use Rattle.promises.specs.History.{Moment, happens, powers, asks, after, shown}
 use Rattle.promises.specs.Transfers.{packets, gone, Log, next, opens, follow, owedBy, answerTo}
-use Rattle.promises.specs.Counts.{speaks, Completion, Completes, Complete}
+use Rattle.promises.specs.Counts.{speaks, Completion, Complete}
 use Rattle.promises.proofs.Reset.{Usable, usable, step-taken}
 use Rattle.promises.proofs.Cut.{accepted, data-done}
 use Rattle.promises.proofs.Sent.{gone-taken, kept-profile}

@@ -2,7 +2,7 @@
 use Prim.Native.Nat.{ℕ, _/_, _%_, _^_}
 use mathlib.Core.Bool.{Bool, true, false, cond, not, _&&_}
 use mathlib.Core.Path.{_≡_, refl, sym, ap, ap₂, subst, subst⁻¹, _∙_}
-use mathlib.Core.List.{List, []}
+use mathlib.Core.List.{List}
 use mathlib.Core.Option.{Option, some, none}
 use borrow.Author.Tests.{ne-eqb}
 use lib.Dec.{eqb, leb, ltb}
@@ -37,7 +37,7 @@ use Rattle.control.specs.declared.EndpointAddress.{EndpointAddress}
 use Rattle.requests.specs.declared.Decision.{Decision}
 use Rattle.requests.specs.declared.Decision.the-variants.{Stall, Status, Byte, Describe, Tiles, Accept}
 use Rattle.requests.specs.Requests.{haltPlace, halted, deviceIn, interfaceIn, endpointIn, standardIn, tilesFrom, tilesIn, vendorIn, decideIn, deconfigured, deviceOut, setAddress, setConfiguration, interfaceOut, endpointOut, standardOut, decideOut, decideBy, decided}
-use Rattle.answers.specs.Answers.{Answer, stall, tell, tiles, accept, told, descriptorOf, described, answerOf, answer, verdictOf, bufferOf}
+use Rattle.answers.specs.Answers.{Answer, told, descriptorOf, described, answerOf, answer}
 use Rattle.live.specs.declared.Live.{Live}
 use Rattle.live.specs.Live.{awake}
 use Rattle.effects.specs.Effects.{Second, withPipe, halting, awaiting, effected, setOut, ticked}
@@ -46,7 +46,7 @@ use Rattle.events.specs.declared.Event.the-variants.{Data}
 use Rattle.events.specs.Events.{Done, odd, arrived, takenBy, replied, followed, dataCome, woken, handled, happens as happensTo}
 use Rattle.device.specs.declared.Device.{Device}
 use Rattle.device.specs.declared.Stepped.{Stepped}
-use Rattle.device.specs.Device.{refusedBy, steppedTo, done}
+use Rattle.device.specs.Device.{refusedBy, steppedTo}
 use Rattle.promises.specs.History.{Agree, Moment, happens, after, seen}
 use Rattle.promises.proofs.Reset.{usable, step-taken}
 use Rattle.promises.proofs.Halts.{cond-both, keptWith, Close, Kin, Alike, followed-kin, bit-equal, alike-seen}

@@ -16,7 +16,7 @@ use Rattle.device.specs.declared.Device.{Device}
 use Rattle.device.specs.declared.Stepped.{Stepped}
 use Rattle.device.specs.declared.Built.{Built}
 use Rattle.device.specs.declared.Handed.{Handed}
-use Rattle.device.specs.Device.{fresh, buildRefusal, buildOf, unfitDevice, refusedBy, stepOf, roomOf, dataRefused, handedOf, handedRoom, poweredOf}
+use Rattle.device.specs.Device.{fresh, buildRefusal, buildOf, unfitDevice, refusedBy, roomOf, dataRefused, handedOf, handedRoom, poweredOf}
 use Rattle.steady.proofs.Fit.{step-fit, flag-fit}
 use Rattle.promises.specs.History.{Moment, happens, powers, asks, after, ends, shown, number, lent, left, why}
 use Rattle.promises.proofs.Sent.{step-refused}

@@ -1,5 +1,5 @@
 -- Of the halts only those of endpoints 1 to 15 are ever looked at: two masts that agree on them show the same. Assumes nothing.
-use Prim.Native.Nat.{ℕ, _-_, _/_, _%_, _^_, _<_}
+use Prim.Native.Nat.{ℕ, _-_, _/_, _%_, _^_}
 use mathlib.Core.Bool.{Bool, true, false, cond, not, _&&_}
 use mathlib.Core.Path.{_≡_, refl, sym, ap, ap₂, subst⁻¹, _∙_}
 use mathlib.Core.List.{List, [], _∷_}
@@ -7,7 +7,6 @@ use native.Mathlib.Omega.{arith}
 use borrow.Author.Tests.{eqb-true, eqb-false}
 use lib.Dec.{eqb, ltb}
 use lib.Bits.{bitAnd, bitOr, and-shr, or-shr, and-mod, or-mod}
-use lib.ListN.{length}
 use Rattle.common.specs.Bytes.{front}
 use Rattle.common.specs.Refusals.{refusal}
 use Rattle.control.specs.declared.EndpointAddress.{EndpointAddress}
@@ -25,9 +24,8 @@ use Rattle.control_pipe.specs.Stages.{zeros, inComplete, acceptOut}
 use Rattle.requests.specs.declared.Kept.{Kept}
 use Rattle.requests.specs.declared.Effect.{Effect}
 use Rattle.requests.specs.declared.Effect.the-variants.{Nothing as NoEffect, Wakeup, Halt as HaltIt, Unhalt as UnhaltIt, Address as TakeAddress, Turn}
-use Rattle.requests.specs.declared.Decision.{Decision}
 use Rattle.requests.specs.declared.Decision.the-variants.{Stall, Status}
-use Rattle.requests.specs.Requests.{endpointOf, haltPlace, withHalt, halted, statusBits, deviceIn, interfaceIn, endpointIn, standardIn, decideIn, standardOut, decideOut, decideBy, decided}
+use Rattle.requests.specs.Requests.{endpointOf, haltPlace, withHalt, halted, statusBits, deviceIn, endpointIn, standardIn, decideIn, standardOut, decideOut, decideBy, decided}
 use Rattle.answers.specs.Answers.{Answer, stall, tell, tiles, accept, answerOf, answer}
 use Rattle.live.specs.declared.Live.{Live}
 use Rattle.live.specs.Live.{awake, liveFine, unfit, stepRefusal}

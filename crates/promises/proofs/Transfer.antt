@@ -6,25 +6,20 @@ use mathlib.Core.List.{List, [], _∷_, _++_, append-nil}
 use native.Mathlib.Omega.{arith}
 use borrow.Author.Tests.{le-leb, leb-true, eqb-true}
 use lib.Dec.{eqb, leb, ltb}
-use lib.ListN.{length, take, drop, length-take, length-drop}
+use lib.ListN.{length, take, drop, length-drop}
 use lib.Seq.{take-add, drop-drop, take-append-le, length-take-le}
-use Rattle.common.specs.Bytes.{inside, part, placed, piece}
+use Rattle.common.specs.Bytes.{part, placed, piece}
 use Rattle.common.specs.Lists.{between}
 use Rattle.common.proofs.Laws.{cond-elim, and-left, and-right, length-placed}
-use Rattle.control.specs.declared.EndpointAddress.{EndpointAddress}
-use Rattle.control.specs.declared.BusAddress.{BusAddress}
 use Rattle.control.specs.declared.Direction.{Direction}
-use Rattle.control.specs.declared.Direction.the-variants.{In, Out}
+use Rattle.control.specs.declared.Direction.the-variants.{Out}
 use Rattle.control.specs.declared.RequestType.{RequestType}
 use Rattle.control.specs.declared.RequestType.the-variants.{Standard, Class, Vendor, Reserved as ReservedType}
 use Rattle.control.specs.declared.Recipient.{Recipient}
 use Rattle.control.specs.declared.Recipient.the-variants.{Device as OfDevice, Interface, Endpoint, Other, Reserved}
 use Rattle.control.specs.declared.Request.{Request}
-use Rattle.control.specs.declared.Parsed.{Parsed}
-use Rattle.control.specs.declared.Parsed.the-variants.{Good, Refused as BadSetup}
-use Rattle.control.specs.Setup.{requestOf, parsed}
+use Rattle.control.specs.Setup.{requestOf}
 use Rattle.record.specs.declared.Record.{Record}
-use Rattle.control_pipe.specs.Sizes.{bufferRoom}
 use Rattle.control_pipe.specs.declared.Stage.{Stage}
 use Rattle.control_pipe.specs.declared.Stage.the-variants.{Idle, DataIn, DataInZlp, DataInLast, CompleteIn, StatusOut, CompleteOut, DataOut, StatusIn, Error}
 use Rattle.control_pipe.specs.declared.Read.{Read}
@@ -34,7 +29,7 @@ use Rattle.control_pipe.specs.declared.Source.the-variants.{Buffer, Book}
 use Rattle.control_pipe.specs.declared.Told.{Told}
 use Rattle.control_pipe.specs.declared.Reply.{Reply}
 use Rattle.control_pipe.specs.declared.Pipe.{Pipe}
-use Rattle.control_pipe.specs.Stages.{Move, at, fresh, zeros, still, stalled, grown, filled, written, bytesOf, chunk, chunkBytes, afterChunk, advanced, sendChunk, answering, beginOut, beginBy, begun, setupCome, addPacket, addRead, endRead, badRead, outAt, outCome, inAt, inComplete}
+use Rattle.control_pipe.specs.Stages.{sendEmpty, opened, Move, at, fresh, zeros, still, stalled, grown, filled, written, bytesOf, chunk, chunkBytes, afterChunk, advanced, sendChunk, answering, beginBy, inComplete}
 use Rattle.requests.specs.declared.State.{State}
 use Rattle.requests.specs.declared.Kept.{Kept}
 use Rattle.requests.specs.declared.Effect.{Effect}
@@ -54,6 +49,7 @@ use Rattle.device.specs.declared.Device.{Device}
 use Rattle.device.specs.declared.Stepped.{Stepped}
 use Rattle.device.specs.declared.Built.{Built}
 use Rattle.device.specs.Device.{buildRefusal, buildOf, refusedBy, unfitDevice, stepOf, poweredOf, done}
+use Rattle.steady.proofs.Moves.{begin-elim, arrived-elim, in-elim}
 use Rattle.steady.proofs.Keeps.{FitsOf, pipe-facts, arrived-holds, Sound, answer-sound}
 use Rattle.steady.proofs.Kept.{Whole, arrived-whole, kept-length}
 use Rattle.steady.proofs.Packets.{short}
@@ -74,6 +70,11 @@ piece-inside at n s l = rw (le-leb (at + n) (length s) l) refl
 
 part-length : (at n : ℕ) (s : List ℕ) → at + n ≤ length s → length (part at n s) ≡ n
 part-length at n s l = let k : n ≤ length (drop at s) = simp length-drop (omega arith) in length-take-le n (drop at s) k
+
+-- ---- an accepted SETUP
+
+pub accepts-setup : (a : Arrival) (s : List ℕ) → odd (a .setup) ≡ true → a .read ≡ Packet → length s ≡ 8 → accepts (Data a) s ≡ true
+accepts-setup a s o r e = rw (o, r, e) refl
 
 -- ---- how far an answer has gone
 
@@ -151,23 +152,20 @@ module _ (book : List ℕ) where
 
       -- ---- an IN-complete
 
-      still-next : (t : Stage) → p .stage ≡ t → UnderAt t (p .reply) (p .request) b owed sent → Next owed sent (still p b)
-      still-next t e u = record { under = subst⁻¹ (λ (x : Stage). UnderAt x (p .reply) (p .request) b owed (sent ++ [])) e (same t (p .reply) (p .request) b u); exact = tt }
+      in-next : (size : ℕ) (taken : Bool) → Under p b owed sent → p .reply .sent ≤ p .reply .len → p .reply .start + p .reply .len ≤ length all → Next owed sent (inComplete size taken book p b)
+      in-next size taken u l k =
+          in-elim (Next owed sent) p b still-next size taken book (λ e. chunk-next size e (known DataIn e) l k taken) (λ e. empty-next taken (known DataInZlp e))
+          (λ e. record { under = append-nil sent ∙ known DataInLast e; exact = tt }) (λ e. record { under = tt; exact = tt })
+        where
+          known : (t : Stage) → p .stage ≡ t → UnderAt t (p .reply) (p .request) b owed sent
+          known t e = subst (λ (x : Stage). UnderAt x (p .reply) (p .request) b owed sent) e u
 
-      in-next : (t : Stage) (size : ℕ) (taken : Bool) → p .stage ≡ t → UnderAt t (p .reply) (p .request) b owed sent → p .reply .sent ≤ p .reply .len → p .reply .start + p .reply .len ≤ length all
-          → Next owed sent (inAt t size taken book p b)
-      unfolding inAt
-      in-next Idle size taken e u l k = still-next Idle e u
-      in-next DataIn size taken e u l k = chunk-next size e u l k taken
-      in-next DataInZlp size true e u l k = record { under = append-nil sent ∙ u; exact = refl }
-      in-next DataInZlp size false e u l k = record { under = still-next DataInZlp e u .under; exact = tt }
-      in-next DataInLast size taken e u l k = record { under = append-nil sent ∙ u; exact = tt }
-      in-next CompleteIn size taken e u l k = still-next CompleteIn e u
-      in-next StatusOut size taken e u l k = still-next StatusOut e u
-      in-next CompleteOut size taken e u l k = still-next CompleteOut e u
-      in-next DataOut size taken e u l k = still-next DataOut e u
-      in-next StatusIn size taken e u l k = record { under = tt; exact = tt }
-      in-next Error size taken e u l k = still-next Error e u
+          still-next : Next owed sent (still p b)
+          still-next = record { under = same (p .stage) (p .reply) (p .request) b u; exact = tt }
+
+          empty-next : (t : Bool) → sent ≡ owed → Next owed sent (sendEmpty t DataInLast p b)
+          empty-next true e = record { under = append-nil sent ∙ e; exact = refl }
+          empty-next false e = record { under = still-next .under; exact = tt }
 
     -- ---- the first half of an event that is no accepted SETUP
 
@@ -186,18 +184,6 @@ module _ (book : List ℕ) where
       stalled-half : Half (stalled p b)
       stalled-half = record { waits = λ x. tt; decides = λ x. absurd (false≢true x) }
 
-      end-half : (r : Read) (n : ℕ) → Under p b owed sent → Half (endRead r n p b)
-      unfolding endRead
-      end-half Packet n u = cond-elim (λ (x : Pipe). Half (still x b)) (eqb n 0) (at Idle p) p (λ e. idle-half) (λ e. still-half u)
-      end-half Block n u = still-half u
-      end-half Fault n u = still-half u
-
-      bad-half : (r : Read) (n : ℕ) → Under p b owed sent → Half (badRead r n p b)
-      unfolding badRead
-      bad-half Packet n u = cond-elim Half (eqb n 0) _ _ (λ e. stalled-half) (λ e. still-half u)
-      bad-half Block n u = still-half u
-      bad-half Fault n u = still-half u
-
       filled-half : (b′ : List ℕ) (x : Pipe) → x .request .direction ≡ Out → Half (filled x b′)
       filled-half b′ x o = by (leb (x .coming .awaited) (x .coming .held)) refl
         where
@@ -205,37 +191,11 @@ module _ (book : List ℕ) where
           by true e = record { waits = λ z. absurd (false≢true (sym z ∙ e)); decides = λ z. (o, rw e refl) }
           by false e = record { waits = λ z. rw e o; decides = λ z. absurd (false≢true (sym e ∙ z)) }
 
-      add-half : (r : Read) (s : List ℕ) → Under p b owed sent → p .request .direction ≡ Out → Half (addRead r s p b)
-      unfolding addRead addPacket
-      add-half Packet s u o = cond-elim Half (leb (length s) (bufferRoom - p .coming .held)) _ _ (λ e. filled-half (placed b (p .coming .held) s) (grown (length s) p) o) (λ e. stalled-half)
-      add-half Block s u o = still-half u
-      add-half Fault s u o = stalled-half
-
-      out-half : (t : Stage) (r : Read) (s : List ℕ) → p .stage ≡ t → Under p b owed sent → Half (outAt t r s p b)
-      unfolding outAt
-      out-half Idle r s e u = bad-half r (length s) u
-      out-half DataIn r s e u = end-half r (length s) u
-      out-half DataInZlp r s e u = end-half r (length s) u
-      out-half DataInLast r s e u = end-half r (length s) u
-      out-half CompleteIn r s e u = bad-half r (length s) u
-      out-half StatusOut r s e u = end-half r (length s) u
-      out-half CompleteOut r s e u = bad-half r (length s) u
-      out-half DataOut r s e u = add-half r s u (subst (λ (t : Stage). UnderAt t (p .reply) (p .request) b owed sent) e u)
-      out-half StatusIn r s e u = bad-half r (length s) u
-      out-half Error r s e u = bad-half r (length s) u
-
-      -- a SETUP that is no eight bytes is not looked at
-      odd-half : (r : Read) (s : List ℕ) → isPacket r && eqb (length s) 8 ≡ false → Under p b owed sent → Half (setupCome r s p b)
-      unfolding setupCome begun parsed
-      odd-half Packet s e u = rw e (still-half u)
-      odd-half Block s e u = still-half u
-      odd-half Fault s e u = still-half u
-
       arrived-half : (a : Arrival) (s : List ℕ) → accepts (Data a) s ≡ false → Under p b owed sent → Half (arrived a s p b)
-      unfolding arrived outCome
       arrived-half a s e u =
-          cond-elim Half (odd (a .setup)) _ _ (λ o. odd-half (a .read) s (sym (ap (λ (x : Bool). x && (isPacket (a .read) && eqb (length s) 8)) o) ∙ e) u)
-          (λ o. cond-elim Half (odd (a .out)) _ _ (λ o. out-half (p .stage) (a .read) s refl u) (λ o. still-half u))
+          arrived-elim Half p b (still-half u) s idle-half stalled-half
+          (λ x l. filled-half (placed b (p .coming .held) s) (grown (length s) p) (subst (λ (t : Stage). UnderAt t (p .reply) (p .request) b owed sent) x u))
+          a (λ o r k. absurd (false≢true (sym e ∙ accepts-setup a s o r k)))
 
 pub is-packet : (r : Read) → isPacket r ≡ true → r ≡ Packet
 is-packet Packet e = refl
@@ -340,11 +300,11 @@ module _ (book : List ℕ) (r : Record) where
 
     ticked-next : Under book (l .pipe) b owed sent → l .pipe .reply .sent ≤ l .pipe .reply .len → l .pipe .reply .start + l .pipe .reply .len ≤ length (bytesOf (l .pipe .reply .source) b book)
         → Second-next owed sent (ticked size quirk taken book l b)
-    unfolding ticked inComplete
+    unfolding ticked
     ticked-next u f g =
         let p = l .pipe in
-        let m = inAt (p .stage) size taken book p b in
-        let k = in-next book owed sent p b (p .stage) size taken refl u f g in
+        let m = inComplete size taken book p b in
+        let k = in-next book owed sent p b size taken u f g in
         cond-elim (Second-next owed sent) (m .done && not quirk && not (eqb (m .pipe .pending .0) 0)) _ _ (λ e. record { under = k .under; exact = k .exact }) (λ e. record { under = k .under; exact = k .exact })
 
     -- no request came out
@@ -402,29 +362,18 @@ module _ (book : List ℕ) (r : Record) where
     abbrev Opened : Move → Type 0
     Opened m = Second-next owed [] (followed r (m .done) tick taken book (withPipe (m .pipe) l) (m .buffer))
 
-    opened-in : Opened (beginBy In q)
-    unfolding beginBy followed
+    opened-in : Opened (opened (fresh CompleteIn q 0) true)
+    unfolding followed
     opened-in =
         let p = fresh CompleteIn q 0 in
         subst⁻¹ (λ (x : ℕ). Second-next (firstOf q (answer r (l .kept) p x)) [] (replied (answer r (l .kept) p (l .book)) size quirk taken book (withPipe p l) zeros)) (sym n)
         (in-answer q taken l n (answer r (l .kept) p (l .book)) (answer-sound (l .book) r (l .kept) p))
 
-    -- an OUT request that waits for its data, or is too long
-    opened-waits : (t : Stage) (m : ℕ) → UnderAt book t (fresh t q m .reply) q zeros owed [] → Second-next owed [] (followed r false tick taken book (withPipe (fresh t q m) l) zeros)
-    opened-waits t m u = waits-next owed [] taken (withPipe (fresh t q m) l) zeros tick u (omega arith) (omega arith)
-
-    opened-out : q .direction ≡ Out → Opened (beginBy Out q)
-    unfolding beginBy beginOut
-    opened-out o =
-        cond-elim Opened (eqb (q .length) 0) _ _ (λ e. decides-next owed [] taken (withPipe (fresh CompleteOut q 0) l) zeros tick o refl)
-        (λ e. cond-elim Opened (leb (q .length) bufferRoom) _ _ (λ e. opened-waits DataOut (q .length) o) (λ e. let z = waits-next owed [] taken (withPipe (stalled (fresh Error q 0) zeros .pipe) l) zeros tick tt (omega arith) (omega arith) in z))
-
     opened-next : Opened (beginBy (q .direction) q)
-    opened-next = by (q .direction) refl
-      where
-        by : (x : Direction) → q .direction ≡ x → Opened (beginBy x q)
-        by In e = opened-in
-        by Out e = opened-out e
+    opened-next =
+        begin-elim Opened q (λ d. opened-in) (λ d. decides-next owed [] taken (withPipe (fresh CompleteOut q 0) l) zeros tick d refl)
+        (λ d k. waits-next owed [] taken (withPipe (fresh DataOut q (q .length)) l) zeros tick d (omega arith) (omega arith))
+        (waits-next owed [] taken (withPipe (stalled (fresh Error q 0) zeros .pipe) l) zeros tick tt (omega arith) (omega arith))
 
   -- ---- the whole event
 

@@ -4,25 +4,17 @@ use mathlib.Core.Bool.{Bool, true, false, cond, not, _&&_}
 use mathlib.Core.Path.{_≡_, refl}
 use mathlib.Core.List.{List, [], _∷_, _++_}
 use native.Mathlib.Omega.{arith}
-use lib.Dec.{eqb, leb}
+use lib.Dec.{eqb}
 use lib.ListN.{length, length-append}
 use Rattle.common.specs.Bytes.{placed}
 use Rattle.common.proofs.Laws.{cond-elim}
-use Rattle.control.specs.declared.Direction.{Direction}
-use Rattle.control.specs.declared.Direction.the-variants.{In, Out}
 use Rattle.control.specs.declared.Request.{Request}
-use Rattle.control.specs.declared.Parsed.{Parsed}
-use Rattle.control.specs.declared.Parsed.the-variants.{Good, Refused as BadSetup}
-use Rattle.control.specs.Setup.{parsed}
+use Rattle.control.specs.Setup.{requestOf}
 use Rattle.record.specs.declared.Record.{Record}
-use Rattle.control_pipe.specs.declared.Stage.{Stage}
-use Rattle.control_pipe.specs.declared.Stage.the-variants.{Idle, DataIn, DataInZlp, DataInLast, CompleteIn, StatusOut, CompleteOut, DataOut, StatusIn, Error}
-use Rattle.control_pipe.specs.declared.Read.{Read}
-use Rattle.control_pipe.specs.declared.Read.the-variants.{Packet, Block, Fault}
+use Rattle.control_pipe.specs.declared.Stage.the-variants.{Idle, CompleteIn, CompleteOut, DataOut}
 use Rattle.control_pipe.specs.declared.Told.{Told}
 use Rattle.control_pipe.specs.declared.Pipe.{Pipe}
-use Rattle.control_pipe.specs.Sizes.{bufferRoom}
-use Rattle.control_pipe.specs.Stages.{Move, still, stalled, fresh, opened, overlong, beginOut, beginBy, begun, setupCome, grown, filled, addPacket, addRead, endRead, badRead, outAt, outCome, written, sendChunk, inAt, inComplete}
+use Rattle.control_pipe.specs.Stages.{Move, at, still, stalled, fresh, opened, overlong, beginBy, grown, filled, written, sendChunk, inAt, inComplete}
 use Rattle.requests.specs.declared.Effect.{Effect}
 use Rattle.requests.specs.declared.Effect.the-variants.{Nothing as NoEffect, Wakeup, Halt as HaltIt, Unhalt as UnhaltIt, Address as TakeAddress, Turn}
 use Rattle.answers.specs.declared.Verdict.{Verdict}
@@ -38,6 +30,7 @@ use Rattle.events.specs.declared.Event.{Event}
 use Rattle.events.specs.declared.Event.the-variants.{Nothing, Reset, Suspend, Resume, Data}
 use Rattle.events.specs.Events.{Done, odd, arrived, takenBy, followed, dataCome, woken, happens, dull, handled, listed, alone, toldBy}
 use Rattle.steady.specs.Steady.{isWrite, writes}
+use Rattle.steady.proofs.Moves.{begin-elim, arrived-elim, in-elim}
 
 -- ---- lists of actions
 
@@ -119,24 +112,16 @@ set-few (Bytes n) size quirk taken book l b = few-one NoAction (written taken _)
 set-few (Tiles start) size quirk taken book l b = few-one NoAction (written taken _) refl (written-one taken _)
 set-few (Accept e) size quirk taken book l b = few-one (actionOf e quirk) (written taken 0) (act-none e quirk) (written-one taken 0)
 
-in-one : (t : Stage) (size : ℕ) (taken : Bool) (book : List ℕ) (p : Pipe) (b : List ℕ) → length (listed (inAt t size taken book p b .told)) ≤ 1
-unfolding inAt sendChunk
-in-one Idle size taken book p b = omega arith
-in-one DataIn size taken book p b = written-one taken _
-in-one DataInZlp size taken book p b = written-one taken 0
-in-one DataInLast size taken book p b = omega arith
-in-one CompleteIn size taken book p b = omega arith
-in-one StatusOut size taken book p b = omega arith
-in-one CompleteOut size taken book p b = omega arith
-in-one DataOut size taken book p b = omega arith
-in-one StatusIn size taken book p b = omega arith
-in-one Error size taken book p b = omega arith
+in-one : (size : ℕ) (taken : Bool) (book : List ℕ) (p : Pipe) (b : List ℕ) → length (listed (inComplete size taken book p b .told)) ≤ 1
+unfolding sendChunk
+in-one size taken book p b =
+    in-elim (λ m. length (listed (m .told)) ≤ 1) p b (omega arith) size taken book (λ e. written-one taken _) (λ e. written-one taken 0) (λ e. omega arith) (λ e. omega arith)
 
 tick-few : (size : ℕ) (quirk taken : Bool) (book : List ℕ) (l : Live) (b : List ℕ) → FewOf (ticked size quirk taken book l b)
-unfolding ticked inComplete writes
+unfolding ticked writes
 tick-few size quirk taken book l b =
-    let m = inAt (l .pipe .stage) size taken book (l .pipe) b in
-    let k : length (listed (m .told)) ≤ 1 = in-one (l .pipe .stage) size taken book (l .pipe) b in
+    let m = inComplete size taken book (l .pipe) b in
+    let k : length (listed (m .told)) ≤ 1 = in-one size taken book (l .pipe) b in
     cond-elim FewOf (m .done && not quirk && not (eqb (m .pipe .pending .0) 0)) _ _ (λ e. few-one (Address (m .pipe .pending)) (m .told) refl k)
     (λ e. few-one NoAction (m .told) refl k)
 
@@ -185,71 +170,18 @@ opened-begins : (p : Pipe) (done : Bool) → Begins (opened p done)
 unfolding writes
 opened-begins p done = begins (opened p done) refl (let l : 2 ≤ 2 = omega arith in l)
 
-out-begun : (q : Request) → Begins (beginOut q)
-unfolding beginOut
-out-begun q =
-    cond-elim Begins (eqb (q .length) 0) _ _ (λ e. opened-begins (fresh CompleteOut q 0) true)
-    (λ e. cond-elim Begins (leb (q .length) bufferRoom) _ _ (λ e. opened-begins (fresh DataOut q (q .length)) false) (λ e. overlong-begins q))
-
-by-begun : (d : Direction) (q : Request) → Begins (beginBy d q)
-unfolding beginBy
-by-begun Out q = out-begun q
-by-begun In q = opened-begins (fresh CompleteIn q 0) true
-
-begun-begins : (s : Parsed) (p : Pipe) (b : List ℕ) → Begins (begun s p b)
-unfolding begun
-begun-begins (Good q) p b = by-begun (q .direction) q
-begun-begins (BadSetup why) p b = still-begins p b
-
-setup-begins : (r : Read) (s : List ℕ) (p : Pipe) (b : List ℕ) → Begins (setupCome r s p b)
-unfolding setupCome
-setup-begins Packet s p b = begun-begins (parsed s) p b
-setup-begins Block s p b = still-begins p b
-setup-begins Fault s p b = still-begins p b
+begin-begins : (q : Request) → Begins (beginBy (q .direction) q)
+begin-begins q =
+    begin-elim Begins q (λ d. opened-begins (fresh CompleteIn q 0) true) (λ d. opened-begins (fresh CompleteOut q 0) true) (λ d l. opened-begins (fresh DataOut q (q .length)) false) (overlong-begins q)
 
 filled-begins : (p : Pipe) (b : List ℕ) → Begins (filled p b)
 unfolding writes
 filled-begins p b = begins (filled p b) refl (let l : 0 ≤ 2 = omega arith in l)
 
-add-begins : (r : Read) (s : List ℕ) (p : Pipe) (b : List ℕ) → Begins (addRead r s p b)
-unfolding addRead addPacket
-add-begins Packet s p b =
-    cond-elim Begins (leb (length s) (bufferRoom - p .coming .held)) _ _
-    (λ e. filled-begins (grown (length s) p) (placed b (p .coming .held) s))
-    (λ e. stalled-begins p b)
-add-begins Block s p b = still-begins p b
-add-begins Fault s p b = stalled-begins p b
-
-end-begins : (r : Read) (n : ℕ) (p : Pipe) (b : List ℕ) → Begins (endRead r n p b)
-unfolding endRead
-end-begins Packet n p b = still-begins _ b
-end-begins Block n p b = still-begins p b
-end-begins Fault n p b = still-begins p b
-
-bad-begins : (r : Read) (n : ℕ) (p : Pipe) (b : List ℕ) → Begins (badRead r n p b)
-unfolding badRead
-bad-begins Packet n p b = cond-elim Begins (eqb n 0) _ _ (λ e. stalled-begins p b) (λ e. still-begins p b)
-bad-begins Block n p b = still-begins p b
-bad-begins Fault n p b = still-begins p b
-
-out-begins : (t : Stage) (r : Read) (s : List ℕ) (p : Pipe) (b : List ℕ) → Begins (outAt t r s p b)
-unfolding outAt
-out-begins Idle r s p b = bad-begins r (length s) p b
-out-begins DataIn r s p b = end-begins r (length s) p b
-out-begins DataInZlp r s p b = end-begins r (length s) p b
-out-begins DataInLast r s p b = end-begins r (length s) p b
-out-begins CompleteIn r s p b = bad-begins r (length s) p b
-out-begins StatusOut r s p b = end-begins r (length s) p b
-out-begins CompleteOut r s p b = bad-begins r (length s) p b
-out-begins DataOut r s p b = add-begins r s p b
-out-begins StatusIn r s p b = bad-begins r (length s) p b
-out-begins Error r s p b = bad-begins r (length s) p b
-
 arrived-begins : (a : Arrival) (s : List ℕ) (p : Pipe) (b : List ℕ) → Begins (arrived a s p b)
-unfolding arrived outCome
 arrived-begins a s p b =
-    cond-elim Begins (odd (a .setup)) _ _ (λ e. setup-begins (a .read) s p b)
-    (λ e. cond-elim Begins (odd (a .out)) _ _ (λ e. out-begins (p .stage) (a .read) s p b) (λ e. still-begins p b))
+    arrived-elim Begins p b (still-begins p b) s (still-begins (at Idle p) b) (stalled-begins p b) (λ e l. filled-begins (grown (length s) p) (placed b (p .coming .held) s)) a
+    (λ o r e. begin-begins (requestOf s))
 
 -- ---- the whole event
 

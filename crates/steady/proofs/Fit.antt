@@ -12,7 +12,7 @@ use Rattle.events.specs.declared.Event.{Event}
 use Rattle.device.specs.declared.Device.{Device}
 use Rattle.device.specs.declared.Stepped.{Stepped}
 use Rattle.device.specs.declared.Built.{Built}
-use Rattle.device.specs.Device.{refusedBy, unfitDevice, withPowered, stepOf, poweredOf}
+use Rattle.device.specs.Device.{refusedBy, unfitDevice, stepOf, poweredOf}
 use Rattle.steady.proofs.Keeps.{keeps}
 
 pub both : (x y : Bool) → _≡_ {A = ℕ} (cond (x && y) 0 9) 0 → (x ≡ true) × (y ≡ true)

@@ -19,25 +19,21 @@ use Rattle.control.specs.declared.RequestType.the-variants.{Standard, Class, Ve
 use Rattle.control.specs.declared.Recipient.{Recipient}
 use Rattle.control.specs.declared.Recipient.the-variants.{Device, Interface, Endpoint, Other, Reserved}
 use Rattle.control.specs.declared.Request.{Request}
-use Rattle.control.specs.declared.Parsed.{Parsed}
-use Rattle.control.specs.declared.Parsed.the-variants.{Good, Refused as BadSetup}
-use Rattle.control.specs.Setup.{parsed}
+use Rattle.control.specs.Setup.{requestOf}
 use Rattle.record.specs.declared.Record.{Record}
 use Rattle.limits.specs.Limits.{lowest}
 use Rattle.descriptor.specs.Device.{deviceBytes}
 use Rattle.configuration.specs.Configuration.{configurationBytes}
 use Rattle.strings.specs.Strings.{stringOf}
 use Rattle.control_pipe.specs.declared.Stage.{Stage}
-use Rattle.control_pipe.specs.declared.Stage.the-variants.{Idle, DataIn, DataInZlp, DataInLast, CompleteIn, StatusOut, CompleteOut, DataOut, StatusIn, Error}
-use Rattle.control_pipe.specs.declared.Read.{Read}
-use Rattle.control_pipe.specs.declared.Read.the-variants.{Packet, Block, Fault}
+use Rattle.control_pipe.specs.declared.Stage.the-variants.{Idle, DataInLast, CompleteIn, CompleteOut, DataOut, StatusIn, Error}
 use Rattle.control_pipe.specs.declared.Source.{Source}
 use Rattle.control_pipe.specs.declared.Source.the-variants.{Buffer, Book}
 use Rattle.control_pipe.specs.declared.Coming.{Coming}
 use Rattle.control_pipe.specs.declared.Reply.{Reply}
 use Rattle.control_pipe.specs.declared.Pipe.{Pipe}
 use Rattle.control_pipe.specs.Sizes.{bufferRoom}
-use Rattle.control_pipe.specs.Stages.{Move, at, fresh, idle, beginOut, beginBy, begun, setupCome, addPacket, addRead, endRead, badRead, outAt, outCome, chunk, advanced, sendChunk, inAt, inComplete, answering}
+use Rattle.control_pipe.specs.Stages.{Move, at, fresh, idle, beginBy, chunk, advanced, sendChunk, inComplete, answering}
 use Rattle.requests.specs.Sizes.{tileSize}
 use Rattle.requests.specs.declared.State.{State}
 use Rattle.requests.specs.declared.State.the-variants.{Default, Addressed, Configured, Suspend as Suspended}
@@ -58,6 +54,7 @@ use Rattle.events.specs.declared.Arrival.{Arrival}
 use Rattle.events.specs.declared.Event.{Event}
 use Rattle.events.specs.declared.Event.the-variants.{Nothing, Reset, Suspend, Resume, Data}
 use Rattle.events.specs.Events.{Done, odd, arrived, takenBy, followed, dataCome, stateAfter, woken, happens, dull, handled}
+use Rattle.steady.proofs.Moves.{begin-elim, arrived-elim, in-elim}
 
 -- ---- a good pipe, as facts
 
@@ -106,74 +103,17 @@ module _ (book : ℕ) where
   abbrev pub Holds : Move → Type 0
   Holds m = FitsOf book (m .pipe)
 
-  out-begun : (q : Request) → Holds (beginOut q)
-  unfolding beginOut
-  out-begun q =
+  begin-holds : (q : Request) → Holds (beginBy (q .direction) q)
+  begin-holds q =
       let none : 0 ≤ bufferRoom = omega arith in
-      cond-elim Holds (eqb (q .length) 0) _ _ (λ e. fresh-fits book CompleteOut q 0 none)
-      (λ e. cond-elim Holds (leb (q .length) bufferRoom) _ _ (λ e. fresh-fits book DataOut q (q .length) (leb-true _ _ e)) (λ e. fresh-fits book Error q 0 none))
-
-  by-begun : (d : Direction) (q : Request) → Holds (beginBy d q)
-  unfolding beginBy
-  by-begun Out q = out-begun q
-  by-begun In q = fresh-fits book CompleteIn q 0 (let none : 0 ≤ bufferRoom = omega arith in none)
+      begin-elim Holds q (λ d. fresh-fits book CompleteIn q 0 none) (λ d. fresh-fits book CompleteOut q 0 none) (λ d l. fresh-fits book DataOut q (q .length) l) (fresh-fits book Error q 0 none)
 
   module _ (p : Pipe) (b : List ℕ) (f : FitsOf book p) where
-    begun-holds : (s : Parsed) → Holds (begun s p b)
-    unfolding begun
-    begun-holds (Good q) = by-begun (q .direction) q
-    begun-holds (BadSetup why) = f
-
-    setup-holds : (r : Read) (s : List ℕ) → Holds (setupCome r s p b)
-    unfolding setupCome
-    setup-holds Packet s = begun-holds (parsed s)
-    setup-holds Block s = f
-    setup-holds Fault s = f
-
-    packet-holds : (s : List ℕ) → Holds (addPacket s p b)
-    unfolding addPacket
-    packet-holds s =
-        cond-elim Holds (leb (length s) (bufferRoom - p .coming .held)) _ _
-        (λ e. let l : length s ≤ bufferRoom - p .coming .held = leb-true _ _ e in
-        record { awaited = f .awaited; held = omega (arith, l, f .held); sent = f .sent; inside = f .inside; address = f .address })
-        (λ e. f)
-
-    add-holds : (r : Read) (s : List ℕ) → Holds (addRead r s p b)
-    unfolding addRead
-    add-holds Packet s = packet-holds s
-    add-holds Block s = f
-    add-holds Fault s = f
-
-    end-holds : (r : Read) (n : ℕ) → Holds (endRead r n p b)
-    unfolding endRead
-    end-holds Packet n = cond-elim (FitsOf book) (eqb n 0) (at Idle p) p (λ e. f) (λ e. f)
-    end-holds Block n = f
-    end-holds Fault n = f
-
-    bad-holds : (r : Read) (n : ℕ) → Holds (badRead r n p b)
-    unfolding badRead
-    bad-holds Packet n = cond-elim Holds (eqb n 0) _ _ (λ e. f) (λ e. f)
-    bad-holds Block n = f
-    bad-holds Fault n = f
-
-    out-holds : (t : Stage) (r : Read) (s : List ℕ) → Holds (outAt t r s p b)
-    unfolding outAt
-    out-holds Idle r s = bad-holds r (length s)
-    out-holds DataIn r s = end-holds r (length s)
-    out-holds DataInZlp r s = end-holds r (length s)
-    out-holds DataInLast r s = end-holds r (length s)
-    out-holds CompleteIn r s = bad-holds r (length s)
-    out-holds StatusOut r s = end-holds r (length s)
-    out-holds CompleteOut r s = bad-holds r (length s)
-    out-holds DataOut r s = add-holds r s
-    out-holds StatusIn r s = bad-holds r (length s)
-    out-holds Error r s = bad-holds r (length s)
-
     pub arrived-holds : (a : Arrival) (s : List ℕ) → Holds (arrived a s p b)
-    unfolding arrived outCome
     arrived-holds a s =
-        cond-elim Holds (odd (a .setup)) _ _ (λ e. setup-holds (a .read) s)
-        (λ e. cond-elim Holds (odd (a .out)) _ _ (λ e. out-holds (p .stage) (a .read) s) (λ e. f))
+        arrived-elim Holds p b f s f f
+        (λ e l. record { awaited = f .awaited; held = omega (arith, l, f .held); sent = f .sent; inside = f .inside; address = f .address })
+        a (λ o r e. begin-holds (requestOf s))
 
     -- ---- what the pipe sends
 
@@ -187,18 +127,8 @@ module _ (book : ℕ) where
     empty-holds : (taken : Bool) (t : Stage) → FitsOf book (cond taken (at t p) p)
     empty-holds taken t = cond-elim (FitsOf book) taken (at t p) p (λ e. f) (λ e. f)
 
-    in-holds : (t : Stage) (size : ℕ) (taken : Bool) (bytes : List ℕ) → Holds (inAt t size taken bytes p b)
-    unfolding inAt
-    in-holds Idle size taken bytes = f
-    in-holds DataIn size taken bytes = chunk-holds size taken bytes
-    in-holds DataInZlp size taken bytes = empty-holds taken DataInLast
-    in-holds DataInLast size taken bytes = f
-    in-holds CompleteIn size taken bytes = f
-    in-holds StatusOut size taken bytes = f
-    in-holds CompleteOut size taken bytes = f
-    in-holds DataOut size taken bytes = f
-    in-holds StatusIn size taken bytes = f
-    in-holds Error size taken bytes = f
+    in-holds : (size : ℕ) (taken : Bool) (bytes : List ℕ) → Holds (inComplete size taken bytes p b)
+    in-holds size taken bytes = in-elim Holds p b f size taken bytes (λ e. chunk-holds size taken bytes) (λ e. empty-holds taken DataInLast) (λ e. f) (λ e. f)
 
     -- an answer inside its source
     answering-fits : (source : Source) (start n : ℕ) → start + n ≤ sourceRoom source book → FitsOf book (answering source start n p)
@@ -441,10 +371,10 @@ module _ (size : ℕ) (quirk taken : Bool) (bytes : List ℕ) (l : Live) (b : Li
       with-pipe k x _ (empty-holds (k .book) (k .pipe) b (x .pipe) taken StatusIn)
 
   tick-keeps : AwakeOf (ticked size quirk taken bytes l b)
-  unfolding ticked inComplete
+  unfolding ticked
   tick-keeps =
-      let m = inAt (l .pipe .stage) size taken bytes (l .pipe) b in
-      let f = in-holds (l .book) (l .pipe) b (w .pipe) (l .pipe .stage) size taken bytes in
+      let m = inComplete size taken bytes (l .pipe) b in
+      let f = in-holds (l .book) (l .pipe) b (w .pipe) size taken bytes in
       cond-elim AwakeOf (m .done && not quirk && not (eqb (m .pipe .pending .0) 0)) _ _
       (λ e. record {
         built = w .built;

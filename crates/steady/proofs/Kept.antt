@@ -4,27 +4,18 @@ use mathlib.Core.Bool.{Bool, true, false, not, _&&_}
 use mathlib.Core.Path.{_≡_, refl, _∙_}
 use mathlib.Core.List.{List, [], _∷_}
 use native.Mathlib.Omega.{arith}
-use borrow.Author.Tests.{leb-true}
-use lib.Dec.{eqb, leb, ltb}
+use lib.Dec.{eqb, ltb}
 use lib.ListN.{length}
 use Rattle.common.specs.Bytes.{placed}
 use Rattle.common.proofs.Laws.{cond-elim, length-placed, placed-nil}
 use Rattle.control.specs.declared.BusAddress.{BusAddress}
 use Rattle.control.specs.declared.EndpointAddress.{EndpointAddress}
-use Rattle.control.specs.declared.Direction.{Direction}
-use Rattle.control.specs.declared.Direction.the-variants.{In, Out}
 use Rattle.control.specs.declared.Request.{Request}
-use Rattle.control.specs.declared.Parsed.{Parsed}
-use Rattle.control.specs.declared.Parsed.the-variants.{Good, Refused as BadSetup}
-use Rattle.control.specs.Setup.{parsed}
+use Rattle.control.specs.Setup.{requestOf}
 use Rattle.record.specs.declared.Record.{Record}
-use Rattle.control_pipe.specs.declared.Stage.{Stage}
-use Rattle.control_pipe.specs.declared.Stage.the-variants.{Idle, DataIn, DataInZlp, DataInLast, CompleteIn, StatusOut, CompleteOut, DataOut, StatusIn, Error}
-use Rattle.control_pipe.specs.declared.Read.{Read}
-use Rattle.control_pipe.specs.declared.Read.the-variants.{Packet, Block, Fault}
 use Rattle.control_pipe.specs.declared.Pipe.{Pipe}
 use Rattle.control_pipe.specs.Sizes.{bufferRoom}
-use Rattle.control_pipe.specs.Stages.{Move, beginOut, beginBy, begun, setupCome, addPacket, addRead, endRead, badRead, outAt, outCome, sendChunk, inAt, inComplete}
+use Rattle.control_pipe.specs.Stages.{Move, beginBy, sendChunk, inComplete}
 use Rattle.requests.specs.declared.Effect.{Effect}
 use Rattle.requests.specs.declared.Effect.the-variants.{Nothing as NoEffect, Wakeup, Halt, Unhalt, Address, Turn}
 use Rattle.answers.specs.declared.Verdict.{Verdict}
@@ -38,6 +29,7 @@ use Rattle.events.specs.declared.Event.{Event}
 use Rattle.events.specs.declared.Event.the-variants.{Nothing, Reset, Suspend, Resume, Data}
 use Rattle.events.specs.Events.{Done, odd, arrived, takenBy, followed, dataCome, woken, happens, dull, handled}
 use Rattle.steady.proofs.Keeps.{Sound, answer-sound}
+use Rattle.steady.proofs.Moves.{begin-elim, arrived-elim, in-elim}
 
 -- ---- book and building
 
@@ -131,78 +123,16 @@ placed-whole : (b s : List ℕ) (held : ℕ) → Whole b → length s ≤ buffer
 placed-whole b [] held w l = rw (placed-nil b held) w
 placed-whole b (x ∷ s) held w l = length-placed b (x ∷ s) held (omega (arith, w, l)) ∙ w
 
-out-begun : (q : Request) → WholeOf (beginOut q)
-unfolding beginOut
-out-begun q =
-    cond-elim WholeOf (eqb (q .length) 0) _ _ (λ e. refl) (λ e. cond-elim WholeOf (leb (q .length) bufferRoom) _ _ (λ e. refl) (λ e. refl))
-
-by-begun : (d : Direction) (q : Request) → WholeOf (beginBy d q)
-unfolding beginBy
-by-begun Out q = out-begun q
-by-begun In q = refl
+begin-whole : (q : Request) → WholeOf (beginBy (q .direction) q)
+begin-whole q = begin-elim WholeOf q (λ d. refl) (λ d. refl) (λ d l. refl) refl
 
 module _ (p : Pipe) (b : List ℕ) (w : Whole b) where
-  begun-whole : (s : Parsed) → WholeOf (begun s p b)
-  unfolding begun
-  begun-whole (Good q) = by-begun (q .direction) q
-  begun-whole (BadSetup why) = w
-
-  setup-whole : (r : Read) (s : List ℕ) → WholeOf (setupCome r s p b)
-  unfolding setupCome
-  setup-whole Packet s = begun-whole (parsed s)
-  setup-whole Block s = w
-  setup-whole Fault s = w
-
-  add-whole : (r : Read) (s : List ℕ) → WholeOf (addRead r s p b)
-  unfolding addRead addPacket
-  add-whole Packet s =
-      cond-elim WholeOf (leb (length s) (bufferRoom - p .coming .held)) _ _ (λ e. placed-whole b s (p .coming .held) w (leb-true _ _ e)) (λ e. w)
-  add-whole Block s = w
-  add-whole Fault s = w
-
-  end-whole : (r : Read) (n : ℕ) → WholeOf (endRead r n p b)
-  unfolding endRead
-  end-whole Packet n = w
-  end-whole Block n = w
-  end-whole Fault n = w
-
-  bad-whole : (r : Read) (n : ℕ) → WholeOf (badRead r n p b)
-  unfolding badRead
-  bad-whole Packet n = cond-elim WholeOf (eqb n 0) _ _ (λ e. w) (λ e. w)
-  bad-whole Block n = w
-  bad-whole Fault n = w
-
-  out-whole : (t : Stage) (r : Read) (s : List ℕ) → WholeOf (outAt t r s p b)
-  unfolding outAt
-  out-whole Idle r s = bad-whole r (length s)
-  out-whole DataIn r s = end-whole r (length s)
-  out-whole DataInZlp r s = end-whole r (length s)
-  out-whole DataInLast r s = end-whole r (length s)
-  out-whole CompleteIn r s = bad-whole r (length s)
-  out-whole StatusOut r s = end-whole r (length s)
-  out-whole CompleteOut r s = bad-whole r (length s)
-  out-whole DataOut r s = add-whole r s
-  out-whole StatusIn r s = bad-whole r (length s)
-  out-whole Error r s = bad-whole r (length s)
-
   pub arrived-whole : (a : Arrival) (s : List ℕ) → WholeOf (arrived a s p b)
-  unfolding arrived outCome
-  arrived-whole a s =
-      cond-elim WholeOf (odd (a .setup)) _ _ (λ e. setup-whole (a .read) s)
-      (λ e. cond-elim WholeOf (odd (a .out)) _ _ (λ e. out-whole (p .stage) (a .read) s) (λ e. w))
+  arrived-whole a s = arrived-elim WholeOf p b w s w w (λ e l. placed-whole b s (p .coming .held) w l) a (λ o r e. begin-whole (requestOf s))
 
-  in-whole : (t : Stage) (size : ℕ) (taken : Bool) (book : List ℕ) → WholeOf (inAt t size taken book p b)
-  unfolding inAt sendChunk
-  in-whole Idle size taken book = w
-  in-whole DataIn size taken book = w
-  in-whole DataInZlp size taken book = w
-  in-whole DataInLast size taken book = w
-  in-whole CompleteIn size taken book = w
-  in-whole StatusOut size taken book = w
-  in-whole CompleteOut size taken book = w
-  in-whole DataOut size taken book = w
-  in-whole StatusIn size taken book = w
-  in-whole Error size taken book = w
+  in-whole : (size : ℕ) (taken : Bool) (book : List ℕ) → WholeOf (inComplete size taken book p b)
+  unfolding sendChunk
+  in-whole size taken book = in-elim WholeOf p b w size taken book (λ e. w) (λ e. w) (λ e. w) (λ e. w)
 
 -- the bytes that an answer tells fit
 buffer-whole : (a : Answer) (book : ℕ) (b : List ℕ) → Sound book (verdictOf a) → Whole b → Whole (bufferOf a b)
@@ -219,10 +149,10 @@ set-whole (Tiles start) size quirk taken book l b w = w
 set-whole (Accept e) size quirk taken book l b w = w
 
 tick-whole : (size : ℕ) (quirk taken : Bool) (book : List ℕ) (l : Live) (b : List ℕ) → Whole b → Whole (ticked size quirk taken book l b .buffer)
-unfolding ticked inComplete
+unfolding ticked
 tick-whole size quirk taken book l b w =
-    let m = inAt (l .pipe .stage) size taken book (l .pipe) b in
-    let k = in-whole (l .pipe) b w (l .pipe .stage) size taken book in
+    let m = inComplete size taken book (l .pipe) b in
+    let k = in-whole (l .pipe) b w size taken book in
     cond-elim (λ (h : Second). Whole (h .buffer)) (m .done && not quirk && not (eqb (m .pipe .pending .0) 0)) _ _ (λ e. k) (λ e. k)
 
 follow-whole : (r : Record) (complete tick taken : Bool) (book : List ℕ) (l : Live) (b : List ℕ) → Whole b → Whole (followed r complete tick taken book l b .buffer)

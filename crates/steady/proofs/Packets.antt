@@ -9,13 +9,11 @@ use lib.ListN.{length, drop, length-take}
 use Rattle.common.specs.Bytes.{inside, part, piece}
 use Rattle.common.proofs.Laws.{cond-elim}
 use Rattle.record.specs.declared.Record.{Record}
-use Rattle.control_pipe.specs.declared.Stage.{Stage}
-use Rattle.control_pipe.specs.declared.Stage.the-variants.{Idle, DataIn, DataInZlp, DataInLast, CompleteIn, StatusOut, CompleteOut, DataOut, StatusIn, Error}
 use Rattle.control_pipe.specs.declared.Source.the-variants.{Buffer, Book}
 use Rattle.control_pipe.specs.declared.Told.{Told}
 use Rattle.control_pipe.specs.declared.Told.the-variants.{Nothing as Silence, Unstalls, UnstallsStalls, Stalls, UnstallOut as UnstalledOut, Write as Wrote, Refused as Declined}
 use Rattle.control_pipe.specs.declared.Pipe.{Pipe}
-use Rattle.control_pipe.specs.Stages.{Move, written, sendChunk, inAt, inComplete, chunk, bytesOf, answering}
+use Rattle.control_pipe.specs.Stages.{Move, written, sendChunk, inComplete, chunk, bytesOf, answering}
 use Rattle.answers.specs.declared.Verdict.{Verdict}
 use Rattle.answers.specs.declared.Verdict.the-variants.{Stall, Bytes, Tiles, Accept}
 use Rattle.answers.specs.Answers.{answer, verdictOf, bufferOf}
@@ -25,6 +23,7 @@ use Rattle.effects.specs.Effects.{Second, withPipe, setOut, ticked}
 use Rattle.events.specs.declared.Event.{Event}
 use Rattle.events.specs.declared.Event.the-variants.{Nothing, Reset, Suspend, Resume, Data}
 use Rattle.events.specs.Events.{Done, arrived, odd, takenBy, followed, dataCome, dull, woken, happens, handled}
+use Rattle.steady.proofs.Moves.{in-elim}
 
 piece-short : (at n : ℕ) (s : List ℕ) → length (piece at n s) ≤ n
 unfolding piece
@@ -71,18 +70,10 @@ chunk-short size taken book p b =
     let k : toldLength (written taken n) ≤ n = written-length taken n in
     record { told = omega arith; packet = omega arith }
 
-in-short : (t : Stage) (size : ℕ) (taken : Bool) (book : List ℕ) (p : Pipe) (b : List ℕ) → SmallMove size (inAt t size taken book p b)
-unfolding inAt
-in-short Idle size taken book p b = none-small size Silence refl
-in-short DataIn size taken book p b = chunk-short size taken book p b
-in-short DataInZlp size taken book p b = empty-small size taken
-in-short DataInLast size taken book p b = none-small size UnstalledOut refl
-in-short CompleteIn size taken book p b = none-small size Silence refl
-in-short StatusOut size taken book p b = none-small size Silence refl
-in-short CompleteOut size taken book p b = none-small size Silence refl
-in-short DataOut size taken book p b = none-small size Silence refl
-in-short StatusIn size taken book p b = none-small size Silence refl
-in-short Error size taken book p b = none-small size Silence refl
+in-short : (size : ℕ) (taken : Bool) (book : List ℕ) (p : Pipe) (b : List ℕ) → SmallMove size (inComplete size taken book p b)
+in-short size taken book p b =
+    in-elim (SmallMove size) p b (none-small size Silence refl) size taken book (λ e. chunk-short size taken book p b) (λ e. empty-small size taken) (λ e. none-small size UnstalledOut refl)
+    (λ e. none-small size Silence refl)
 
 set-short : (v : Verdict) (size : ℕ) (quirk taken : Bool) (book : List ℕ) (l : Live) (b : List ℕ) → SmallHalf size (setOut v size quirk taken book l b)
 unfolding setOut
@@ -92,10 +83,10 @@ set-short (Tiles start) size quirk taken book l b = chunk-short size taken book 
 set-short (Accept e) size quirk taken book l b = empty-small size taken
 
 tick-short : (size : ℕ) (quirk taken : Bool) (book : List ℕ) (l : Live) (b : List ℕ) → SmallHalf size (ticked size quirk taken book l b)
-unfolding ticked inComplete
+unfolding ticked
 tick-short size quirk taken book l b =
-    let m = inAt (l .pipe .stage) size taken book (l .pipe) b in
-    let k = in-short (l .pipe .stage) size taken book (l .pipe) b in
+    let m = inComplete size taken book (l .pipe) b in
+    let k = in-short size taken book (l .pipe) b in
     cond-elim (SmallHalf size) (m .done && not quirk && not (eqb (m .pipe .pending .0) 0)) _ _ (λ e. k) (λ e. k)
 
 follow-short : (r : Record) (complete tick taken : Bool) (book : List ℕ) (l : Live) (b : List ℕ) → SmallHalf (r .plan .basics .packet) (followed r complete tick taken book l b)
