@@ -8,16 +8,11 @@ use borrow.Author.Tests.{eqb-true}
 use lib.Dec.{eqb, leb, ltb}
 use lib.ListN.{length}
 use Rattle.common.specs.Bytes.{placed}
-use Rattle.common.specs.Lists.{between}
 use Rattle.common.proofs.Laws.{cond-elim, and-left, and-right, and-false}
 use Rattle.control.specs.declared.EndpointAddress.{EndpointAddress}
 use Rattle.control.specs.declared.BusAddress.{BusAddress}
 use Rattle.control.specs.declared.Direction.{Direction}
 use Rattle.control.specs.declared.Direction.the-variants.{In, Out}
-use Rattle.control.specs.declared.RequestType.{RequestType}
-use Rattle.control.specs.declared.RequestType.the-variants.{Standard, Class, Vendor, Reserved as ReservedType}
-use Rattle.control.specs.declared.Recipient.{Recipient}
-use Rattle.control.specs.declared.Recipient.the-variants.{Device as OfDevice, Interface, Endpoint, Other, Reserved}
 use Rattle.control.specs.declared.Request.{Request}
 use Rattle.control.specs.Setup.{requestOf}
 use Rattle.record.specs.declared.Record.{Record}
@@ -30,14 +25,12 @@ use Rattle.control_pipe.specs.declared.Told.the-variants.{Nothing as Silence, U
 use Rattle.control_pipe.specs.declared.Pipe.{Pipe}
 use Rattle.control_pipe.specs.declared.Source.the-variants.{Buffer, Book}
 use Rattle.control_pipe.specs.Stages.{sendEmpty, Move, at, answering, fresh, zeros, still, stalled, grown, filled, chunk, afterChunk, advanced, sendChunk, beginBy, inComplete}
-use Rattle.requests.specs.declared.State.{State}
-use Rattle.requests.specs.declared.State.the-variants.{Default, Addressed, Configured, Suspend as Suspended}
 use Rattle.requests.specs.declared.Kept.{Kept}
 use Rattle.requests.specs.declared.Effect.{Effect}
 use Rattle.requests.specs.declared.Effect.the-variants.{Nothing as NoEffect, Wakeup, Halt as HaltIt, Unhalt as UnhaltIt, Address as TakeAddress, Turn}
 use Rattle.requests.specs.declared.Decision.{Decision}
 use Rattle.requests.specs.declared.Decision.the-variants.{Stall, Status, Byte, Describe, Tiles, Accept}
-use Rattle.requests.specs.Requests.{endpointOf, feature, setAddress, deconfigured, setConfiguration, deviceOut, interfaceOut, endpointOut, standardOut, decideIn, decideOut, decideBy, decided}
+use Rattle.requests.specs.Requests.{decideOut, decideBy, decided}
 use Rattle.answers.specs.Answers.{Answer, stall, tell, tiles, accept, told, descriptorOf, described, answerOf, answer}
 use Rattle.live.specs.declared.Live.{Live}
 use Rattle.live.specs.Live.{awake}
@@ -53,12 +46,13 @@ use Rattle.device.specs.declared.Device.{Device}
 use Rattle.device.specs.declared.Stepped.{Stepped}
 use Rattle.device.specs.declared.Built.{Built}
 use Rattle.device.specs.Device.{buildRefusal, buildOf, refusedBy, unfitDevice, steppedTo, poweredOf, done}
+use Rattle.steady.proofs.Decisions.{decide-in-elim, decide-out-elim}
 use Rattle.steady.proofs.Moves.{begin-elim, arrived-elim, in-elim}
 use Rattle.promises.specs.History.{Moment, happens, powers, asks, after, shown}
 use Rattle.promises.specs.Transfers.{isPacket, accepts, All}
 use Rattle.promises.specs.Addresses.{lastBy, lastAfter, Tale, further, tale, opening, Names, Named, Acts, Addresses, tickOf, ticks, Completed, decidedBy, decides}
 use Rattle.promises.proofs.Reset.{step-taken}
-use Rattle.promises.proofs.Cut.{Mild, mild, accepted}
+use Rattle.promises.proofs.Cut.{accepted}
 use Rattle.promises.proofs.Sent.{step-refused, kept-profile, all-append, all-slots}
 use Rattle.promises.proofs.Transfer.{accepts-setup, is-packet, effected-stage}
 
@@ -87,55 +81,13 @@ module _ (q : Request) where
   NamingIn (tiles start) = Unit {0}
   NamingIn (accept e) = Naming e
 
-  feature-names : (n value : ℕ) (e : Effect) → Naming e → NamingBy (feature n value e)
-  feature-names n value e f = cond-elim NamingBy (eqb value n) _ _ (λ t. f) (λ t. tt)
-
-  deconfigured-names : (s : State) → Naming (deconfigured s)
-  deconfigured-names Default = tt
-  deconfigured-names Addressed = tt
-  deconfigured-names Configured = tt
-  deconfigured-names Suspended = tt
-
-  device-names : (s : State) → q .direction ≡ Out → q .kind ≡ Standard → q .recipient ≡ OfDevice → NamingBy (deviceOut s (q .request) (q .value))
-  unfolding deviceOut setAddress setConfiguration
-  device-names s o k w =
-      cond-elim NamingBy (eqb (q .request) 1) _ _ (λ t. feature-names 1 (q .value) (Wakeup false) tt)
-      (λ t. cond-elim NamingBy (eqb (q .request) 3) _ _ (λ t. feature-names 1 (q .value) (Wakeup true) tt)
-      (λ t. cond-elim NamingBy (eqb (q .request) 5) _ _
-      (λ t. cond-elim NamingBy (between 1 127 (q .value)) _ _ (λ u. record { direction = o; kind = k; recipient = w; code = eqb-true (q .request) 5 t; value = refl }) (λ u. tt))
-      (λ t. cond-elim NamingBy (eqb (q .request) 9) _ _
-      (λ t. cond-elim NamingBy (eqb (q .value) 1) _ _ (λ t. tt) (λ t. cond-elim NamingBy (eqb (q .value) 0) _ _ (λ t. deconfigured-names s) (λ t. tt))) (λ t. tt))))
-
-  standard-names : (w : Recipient) (k : Kept) → q .direction ≡ Out → q .kind ≡ Standard → q .recipient ≡ w → NamingBy (standardOut w k q)
-  unfolding standardOut interfaceOut endpointOut
-  standard-names OfDevice k o t w = device-names (k .state) o t w
-  standard-names Interface k o t w = cond-elim NamingBy (eqb (q .request) 11 && eqb (q .value) 0 && leb (q .index) 255) _ _ (λ t. tt) (λ t. tt)
-  standard-names Endpoint k o t w =
-      cond-elim NamingBy (eqb (q .request) 1) _ _ (λ t. feature-names 0 (q .value) (UnhaltIt (endpointOf (q .index))) tt)
-      (λ t. cond-elim NamingBy (eqb (q .request) 3) _ _ (λ t. feature-names 0 (q .value) (HaltIt (endpointOf (q .index))) tt) (λ t. tt))
-  standard-names Other k o t w = tt
-  standard-names Reserved k o t w = tt
-
-  out-names : (t : RequestType) (k : Kept) → q .direction ≡ Out → q .kind ≡ t → NamingBy (decideOut t k q)
-  unfolding decideOut
-  out-names Standard k o t = standard-names (q .recipient) k o t refl
-  out-names Class k o t = tt
-  out-names Vendor k o t = tt
-  out-names ReservedType k o t = tt
-
-  -- an IN request has no effect
-  mild-names : (d : Decision) → Mild d → NamingBy d
-  mild-names Stall f = tt
-  mild-names (Status n) f = tt
-  mild-names (Byte n) f = tt
-  mild-names Describe f = tt
-  mild-names (Tiles n) f = tt
-  mild-names (Accept e) f = absurd f
+  out-names : (k : Kept) → q .direction ≡ Out → NamingBy (decideOut (q .kind) k q)
+  out-names k o = decide-out-elim NamingBy tt k q tt (λ on. tt) (λ e. tt) (λ e. tt) (λ a l t w c v. record { direction = o; kind = t; recipient = w; code = c; value = v }) (λ s e. tt)
 
   decision-names : (d : Direction) (k : Kept) (p : Pipe) (n : ℕ) → q .direction ≡ d → NamingBy (decideBy d k p q n)
   unfolding decideBy
-  decision-names In k p n o = mild-names (decideIn (q .kind) k p q n) (mild (q .kind) k p q n)
-  decision-names Out k p n o = out-names (q .kind) k o refl
+  decision-names In k p n o = decide-in-elim NamingBy tt k q p n (λ n. tt) (λ n. tt) tt (λ s l. tt) (q .kind)
+  decision-names Out k p n o = out-names k o
 
   told-names : (o : Option (List ℕ)) → NamingIn (told o)
   told-names none = tt
@@ -549,7 +501,7 @@ module _ (t : Tale) (c : Along t) where
         record {
           along = subst⁻¹ (λ (y : Stepped). Along (record { device = y .device; last = lastAfter d (t .last) m })) r (subst⁻¹ (λ (y : Option Request). Along (record { device = d; last = y })) l c);
           acts = subst⁻¹ (λ (y : Stepped). All (Acts (Claim quirky (t .last) (lastAfter d (t .last) m) (decidedBy e s d) (tickOf e) (d .live .pipe .stage) (y .device .live .pipe .stage))) (slots (y .polled .actions))) r
-          (tt, (tt, (tt, (tt, (tt, tt)))));
+              (tt, (tt, (tt, (tt, (tt, tt)))));
         }
 
     moves-taken : refusedBy d book room ≡ 0 → Moves m
@@ -561,10 +513,10 @@ module _ (t : Tale) (c : Along t) where
         let l : lastAfter d (t .last) m ≡ lastBy e s (t .last) = rw z refl in
         record {
           along = subst⁻¹ (λ (y : Stepped). Along (record { device = y .device; last = lastAfter d (t .last) m })) r
-          (subst⁻¹ (λ (y : Option Request). Along (record { device = steppedTo d e x .device; last = y })) l (record { pends = k .pends; owns = k .owns }));
+              (subst⁻¹ (λ (y : Option Request). Along (record { device = steppedTo d e x .device; last = y })) l (record { pends = k .pends; owns = k .owns }));
           acts = subst⁻¹ (λ (y : Stepped). All (Acts (Claim quirky (t .last) (lastAfter d (t .last) m) (decidedBy e s d) (tickOf e) (d .live .pipe .stage) (y .device .live .pipe .stage))) (slots (y .polled .actions))) r
-          (subst⁻¹ (λ (y : Option Request). All (Acts (Claim quirky (t .last) y (decidedBy e s d) (tickOf e) (d .live .pipe .stage) (x .live .pipe .stage))) (slots (steppedTo d e x .polled .actions))) l
-          (acts-told (Claim quirky (t .last) (lastBy e s (t .last)) (decidedBy e s d) (tickOf e) (d .live .pipe .stage) (x .live .pipe .stage)) x (k .acts)));
+              (subst⁻¹ (λ (y : Option Request). All (Acts (Claim quirky (t .last) y (decidedBy e s d) (tickOf e) (d .live .pipe .stage) (x .live .pipe .stage))) (slots (steppedTo d e x .polled .actions))) l
+              (acts-told (Claim quirky (t .last) (lastBy e s (t .last)) (decidedBy e s d) (tickOf e) (d .live .pipe .stage) (x .live .pipe .stage)) x (k .acts)));
         }
 
   moves : (m : Moment) → Moves m

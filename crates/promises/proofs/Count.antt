@@ -357,7 +357,7 @@ silent-decision r q (Accept x) f e = false≢true e
 pub out-silent : (r : Record) (k : Kept) (q : Request) (n : ℕ) → q .direction ≡ Out → speaks (answer r k (fresh CompleteIn q 0) n) ≡ true → ⊥
 unfolding answer decided decideBy
 out-silent r k q n o e =
-    silent-decision r q (decideOut (q .kind) k q) (bare (q .kind) k q) (sym (ap (λ (x : Direction). speaks (answerOf r q (decideBy x k (fresh CompleteIn q 0) q n))) o) ∙ e)
+    silent-decision r q (decideOut (q .kind) k q) (bare k q) (sym (ap (λ (x : Direction). speaks (answerOf r q (decideBy x k (fresh CompleteIn q 0) q n))) o) ∙ e)
 
 module _ (d : Device) (a : Arrival) (book s room : List ℕ) (z : refusedBy d book room ≡ 0) (o : odd (a .setup) ≡ true) (x : a .read ≡ Packet) (e : length s ≡ 8) (w : a .write ≡ Taken) where
   abbrev q : Request

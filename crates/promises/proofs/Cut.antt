@@ -27,7 +27,6 @@ use Rattle.control_pipe.specs.declared.Stage.the-variants.{CompleteIn, Complete
 use Rattle.control_pipe.specs.declared.Read.{Read}
 use Rattle.control_pipe.specs.declared.Read.the-variants.{Packet}
 use Rattle.control_pipe.specs.Stages.{Move, at, fresh, zeros, opened, overlong, begun, beginBy, beginOut, setupCome, sendChunk, inAt, inComplete}
-use Rattle.requests.specs.Sizes.{tileSize}
 use Rattle.requests.specs.declared.State.{State}
 use Rattle.requests.specs.declared.State.the-variants.{Default, Addressed, Configured, Suspend}
 use Rattle.requests.specs.declared.Kept.{Kept}
@@ -36,7 +35,7 @@ use Rattle.requests.specs.declared.Effect.the-variants.{Nothing as NoEffect, Wa
 use Rattle.control.specs.declared.EndpointAddress.{EndpointAddress}
 use Rattle.requests.specs.declared.Decision.{Decision}
 use Rattle.requests.specs.declared.Decision.the-variants.{Stall, Status, Byte, Describe, Tiles, Accept}
-use Rattle.requests.specs.Requests.{haltPlace, halted, deviceIn, interfaceIn, endpointIn, standardIn, tilesFrom, tilesIn, vendorIn, decideIn, deconfigured, deviceOut, setAddress, setConfiguration, interfaceOut, endpointOut, standardOut, decideOut, decideBy, decided}
+use Rattle.requests.specs.Requests.{haltPlace, halted, decideIn, deconfigured, deviceOut, setAddress, setConfiguration, interfaceOut, endpointOut, standardOut, decideOut, decideBy, decided}
 use Rattle.answers.specs.Answers.{Answer, told, descriptorOf, described, answerOf, answer}
 use Rattle.live.specs.declared.Live.{Live}
 use Rattle.live.specs.Live.{awake}
@@ -47,6 +46,7 @@ use Rattle.events.specs.Events.{Done, odd, arrived, takenBy, replied, followed,
 use Rattle.device.specs.declared.Device.{Device}
 use Rattle.device.specs.declared.Stepped.{Stepped}
 use Rattle.device.specs.Device.{refusedBy, steppedTo}
+use Rattle.steady.proofs.Decisions.{decide-in-elim}
 use Rattle.promises.specs.History.{Agree, Moment, happens, after, seen}
 use Rattle.promises.proofs.Reset.{usable, step-taken}
 use Rattle.promises.proofs.Halts.{cond-both, keptWith, Close, Kin, Alike, followed-kin, bit-equal, alike-seen}
@@ -61,30 +61,8 @@ Mild Describe = Unit {0}
 Mild (Tiles n) = Unit {0}
 Mild (Accept e) = ⊥
 
-mild-standard : (t : Recipient) (k : Kept) (p : Pipe) (q : Request) → Mild (standardIn t k p q)
-unfolding standardIn deviceIn interfaceIn endpointIn
-mild-standard OfDevice k p q =
-    cond-elim Mild (eqb (q .request) 0) _ _ (λ e. tt) (λ e. cond-elim Mild (eqb (q .request) 6) _ _ (λ e. tt) (λ e. cond-elim Mild (eqb (q .request) 8) _ _ (λ e. tt) (λ e. tt)))
-mild-standard Interface k p q =
-    cond-elim Mild (eqb (q .request) 0) _ _ (λ e. tt) (λ e. cond-elim Mild (eqb (q .request) 10) _ _ (λ e. cond-elim Mild (leb (q .index) 255) _ _ (λ e. tt) (λ e. tt)) (λ e. tt))
-mild-standard Endpoint k p q = cond-elim Mild (eqb (q .request) 0) _ _ (λ e. tt) (λ e. tt)
-mild-standard Other k p q = tt
-mild-standard Reserved k p q = tt
-
-mild-vendor : (t : Recipient) (q : Request) (n : ℕ) → Mild (vendorIn t q n)
-unfolding vendorIn tilesIn tilesFrom
-mild-vendor OfDevice q n = cond-elim Mild (eqb (q .request) 1 && eqb (q .index) 0) _ _ (λ e. cond-elim Mild (ltb (q .value) (n / tileSize)) _ _ (λ e. tt) (λ e. tt)) (λ e. tt)
-mild-vendor Interface q n = tt
-mild-vendor Endpoint q n = tt
-mild-vendor Other q n = tt
-mild-vendor Reserved q n = tt
-
 pub mild : (t : RequestType) (k : Kept) (p : Pipe) (q : Request) (n : ℕ) → Mild (decideIn t k p q n)
-unfolding decideIn
-mild Standard k p q n = mild-standard (q .recipient) k p q
-mild Class k p q n = tt
-mild Vendor k p q n = mild-vendor (q .recipient) q n
-mild ReservedType k p q n = tt
+mild t k p q n = decide-in-elim Mild tt k q p n (λ n. tt) (λ n. tt) tt (λ s l. tt) t
 
 module _ (r : Record) (q : Request) (size : ℕ) (quirk taken : Bool) (book : List ℕ) (l : Live) (b : List ℕ) where
   abbrev Left : Answer → Type 0
@@ -317,7 +295,7 @@ close d d′ a =
     let k′ = d′ .live .kept in
     record {
       same = ap₂ {C = Kept} (λ (t : State) (w : Bool). record { state = t; wakeup = w; powered = k′ .powered; halts = k′ .halts }) (sym (a .state)) (sym (a .wakeup))
-      ∙ ap {B = Kept} (λ (p : Bool). record { state = k .state; wakeup = k .wakeup; powered = p; halts = k′ .halts }) (sym (a .powered));
+          ∙ ap {B = Kept} (λ (p : Bool). record { state = k .state; wakeup = k .wakeup; powered = p; halts = k′ .halts }) (sym (a .powered));
       bits = record { bit = λ e n. bit-equal (k .halts / 2 ^ haltPlace e) (k′ .halts / 2 ^ haltPlace e) (rw (ne-eqb (e .0 % 16) 0 n) at (a .halts e n)) };
     }
 

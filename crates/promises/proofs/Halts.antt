@@ -288,13 +288,14 @@ module _ (d : Device) (h : ℕ) (b : Bits (d .live .kept .halts) h) where
         let v = cond t (steppedTo d′ e y) (record { device = d′; polled = refusedPoll (refusal n) }) in
         (stepped (v .polled) (cond t (front (y .packet) room) room) ≡ stepped (u .polled) (cond t (front (x .packet) room) room)) × Alike (u .device) (v .device))
     stepped-kin true =
-        let l = k .live in
-        (ap₂ (λ (i : Polled) (j : List ℕ). stepped i (front j room)) (polled-kin x y e k) (k .packet),
-        record {
-          halts = l .halts;
-          same = ap₂ {C = Device} (λ (i : Live) (j : List ℕ). record { profile = d .profile; live = i; buffer = j }) (l .live) (k .buffer);
-          bits = l .bits;
-        })
+        let l = k .live in (
+          ap₂ (λ (i : Polled) (j : List ℕ). stepped i (front j room)) (polled-kin x y e k) (k .packet),
+          record {
+            halts = l .halts;
+            same = ap₂ {C = Device} (λ (i : Live) (j : List ℕ). record { profile = d .profile; live = i; buffer = j }) (l .live) (k .buffer);
+            bits = l .bits;
+          },
+        )
     stepped-kin false = (refl, record { halts = h; same = refl; bits = b })
 
     happens-both : Both (happens e book s room)

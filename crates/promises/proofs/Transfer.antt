@@ -9,14 +9,9 @@ use lib.Dec.{eqb, leb, ltb}
 use lib.ListN.{length, take, drop, length-drop}
 use lib.Seq.{take-add, drop-drop, take-append-le, length-take-le}
 use Rattle.common.specs.Bytes.{part, placed, piece}
-use Rattle.common.specs.Lists.{between}
 use Rattle.common.proofs.Laws.{cond-elim, and-left, and-right, length-placed}
 use Rattle.control.specs.declared.Direction.{Direction}
 use Rattle.control.specs.declared.Direction.the-variants.{Out}
-use Rattle.control.specs.declared.RequestType.{RequestType}
-use Rattle.control.specs.declared.RequestType.the-variants.{Standard, Class, Vendor, Reserved as ReservedType}
-use Rattle.control.specs.declared.Recipient.{Recipient}
-use Rattle.control.specs.declared.Recipient.the-variants.{Device as OfDevice, Interface, Endpoint, Other, Reserved}
 use Rattle.control.specs.declared.Request.{Request}
 use Rattle.control.specs.Setup.{requestOf}
 use Rattle.record.specs.declared.Record.{Record}
@@ -30,13 +25,12 @@ use Rattle.control_pipe.specs.declared.Told.{Told}
 use Rattle.control_pipe.specs.declared.Reply.{Reply}
 use Rattle.control_pipe.specs.declared.Pipe.{Pipe}
 use Rattle.control_pipe.specs.Stages.{sendEmpty, opened, Move, at, fresh, zeros, still, stalled, grown, filled, written, bytesOf, chunk, chunkBytes, afterChunk, advanced, sendChunk, answering, beginBy, inComplete}
-use Rattle.requests.specs.declared.State.{State}
 use Rattle.requests.specs.declared.Kept.{Kept}
 use Rattle.requests.specs.declared.Effect.{Effect}
 use Rattle.requests.specs.declared.Effect.the-variants.{Nothing as NoEffect, Wakeup, Halt as HaltIt, Unhalt as UnhaltIt, Address as TakeAddress, Turn}
 use Rattle.requests.specs.declared.Decision.{Decision}
 use Rattle.requests.specs.declared.Decision.the-variants.{Stall, Status, Byte, Describe, Tiles, Accept}
-use Rattle.requests.specs.Requests.{endpointOf, feature, setAddress, setConfiguration, deviceOut, interfaceOut, endpointOut, standardOut, decideOut, decideBy, decided}
+use Rattle.requests.specs.Requests.{decideOut, decideBy, decided}
 use Rattle.answers.specs.Answers.{Answer, stall, tell, tiles, accept, answerOf, answer, verdictOf, bytesOf as answerBytes}
 use Rattle.live.specs.declared.Live.{Live}
 use Rattle.live.specs.Live.{awake, sourceRoom}
@@ -49,6 +43,7 @@ use Rattle.device.specs.declared.Device.{Device}
 use Rattle.device.specs.declared.Stepped.{Stepped}
 use Rattle.device.specs.declared.Built.{Built}
 use Rattle.device.specs.Device.{buildRefusal, buildOf, refusedBy, unfitDevice, stepOf, poweredOf, done}
+use Rattle.steady.proofs.Decisions.{decide-out-elim}
 use Rattle.steady.proofs.Moves.{begin-elim, arrived-elim, in-elim}
 use Rattle.steady.proofs.Keeps.{FitsOf, pipe-facts, arrived-holds, Sound, answer-sound}
 use Rattle.steady.proofs.Kept.{Whole, arrived-whole, kept-length}
@@ -212,33 +207,8 @@ Bare Describe = ⊥
 Bare (Tiles n) = ⊥
 Bare (Accept e) = Unit {0}
 
-bare-feature : (n value : ℕ) (e : Effect) → Bare (feature n value e)
-bare-feature n value e = cond-elim Bare (eqb value n) _ _ (λ t. tt) (λ t. tt)
-
-bare-device : (s : State) (code value : ℕ) → Bare (deviceOut s code value)
-unfolding deviceOut setAddress setConfiguration
-bare-device s code value =
-    cond-elim Bare (eqb code 1) _ _ (λ t. bare-feature 1 value (Wakeup false))
-    (λ t. cond-elim Bare (eqb code 3) _ _ (λ t. bare-feature 1 value (Wakeup true))
-    (λ t. cond-elim Bare (eqb code 5) _ _ (λ t. cond-elim Bare (between 1 127 value) _ _ (λ t. tt) (λ t. tt))
-    (λ t. cond-elim Bare (eqb code 9) _ _ (λ t. cond-elim Bare (eqb value 1) _ _ (λ t. tt) (λ t. cond-elim Bare (eqb value 0) _ _ (λ t. tt) (λ t. tt))) (λ t. tt))))
-
-bare-standard : (w : Recipient) (k : Kept) (q : Request) → Bare (standardOut w k q)
-unfolding standardOut interfaceOut endpointOut
-bare-standard OfDevice k q = bare-device (k .state) (q .request) (q .value)
-bare-standard Interface k q = cond-elim Bare (eqb (q .request) 11 && eqb (q .value) 0 && leb (q .index) 255) _ _ (λ t. tt) (λ t. tt)
-bare-standard Endpoint k q =
-    cond-elim Bare (eqb (q .request) 1) _ _ (λ t. bare-feature 0 (q .value) (UnhaltIt (endpointOf (q .index))))
-    (λ t. cond-elim Bare (eqb (q .request) 3) _ _ (λ t. bare-feature 0 (q .value) (HaltIt (endpointOf (q .index)))) (λ t. tt))
-bare-standard Other k q = tt
-bare-standard Reserved k q = tt
-
-pub bare : (t : RequestType) (k : Kept) (q : Request) → Bare (decideOut t k q)
-unfolding decideOut
-bare Standard k q = bare-standard (q .recipient) k q
-bare Class k q = tt
-bare Vendor k q = tt
-bare ReservedType k q = tt
+pub bare : (k : Kept) (q : Request) → Bare (decideOut (q .kind) k q)
+bare k q = decide-out-elim Bare tt k q tt (λ on. tt) (λ e. tt) (λ e. tt) (λ a l t w c v. tt) (λ s e. tt)
 
 -- ---- the second half of an event
 
@@ -319,7 +289,7 @@ module _ (book : List ℕ) (r : Record) where
     unfolding followed answer decided decideBy
     decides-next tick o e =
         let q = l .pipe .request in
-        subst⁻¹ (λ (x : Direction). Second-next owed sent (replied (answerOf r q (decideBy x (l .kept) (l .pipe) q (l .book))) size quirk taken book l b)) o (out-next (decideOut (q .kind) (l .kept) q) (bare (q .kind) (l .kept) q) e)
+        subst⁻¹ (λ (x : Direction). Second-next owed sent (replied (answerOf r q (decideBy x (l .kept) (l .pipe) q (l .book))) size quirk taken book l b)) o (out-next (decideOut (q .kind) (l .kept) q) (bare (l .kept) q) e)
 
   -- ---- the event of an accepted SETUP
 

@@ -1,23 +1,18 @@
 -- No step leaves a state that refusal 9 names. Assumes nothing.
-use Prim.Native.Nat.{ℕ, _+_, _-_, _/_, _%_, _≤_, _<_}
+use Prim.Native.Nat.{ℕ, _+_, _-_, _/_, _%_, _≤_}
 use mathlib.Core.Bool.{Bool, true, false, cond, not, _&&_, false≢true}
 use mathlib.Core.Path.{_≡_, refl}
 use mathlib.Core.List.{List}
 use mathlib.Core.Option.{Option, some, none}
 use native.Mathlib.Omega.{arith}
-use borrow.Author.Tests.{le-leb, leb-true, ltb-true, eqb-true}
+use borrow.Author.Tests.{le-leb, leb-true, eqb-true}
 use lib.Dec.{eqb, leb, ltb}
 use lib.ListN.{length}
-use Rattle.common.specs.Lists.{between}
 use Rattle.common.proofs.Laws.{cond-elim, and-left, and-right}
 use Rattle.control.specs.declared.BusAddress.{BusAddress}
 use Rattle.control.specs.declared.EndpointAddress.{EndpointAddress}
 use Rattle.control.specs.declared.Direction.{Direction}
 use Rattle.control.specs.declared.Direction.the-variants.{In, Out}
-use Rattle.control.specs.declared.RequestType.{RequestType}
-use Rattle.control.specs.declared.RequestType.the-variants.{Standard, Class, Vendor, Reserved as ReservedType}
-use Rattle.control.specs.declared.Recipient.{Recipient}
-use Rattle.control.specs.declared.Recipient.the-variants.{Device, Interface, Endpoint, Other, Reserved}
 use Rattle.control.specs.declared.Request.{Request}
 use Rattle.control.specs.Setup.{requestOf}
 use Rattle.record.specs.declared.Record.{Record}
@@ -34,7 +29,6 @@ use Rattle.control_pipe.specs.declared.Reply.{Reply}
 use Rattle.control_pipe.specs.declared.Pipe.{Pipe}
 use Rattle.control_pipe.specs.Sizes.{bufferRoom}
 use Rattle.control_pipe.specs.Stages.{Move, at, fresh, idle, beginBy, chunk, advanced, sendChunk, inComplete, answering}
-use Rattle.requests.specs.Sizes.{tileSize}
 use Rattle.requests.specs.declared.State.{State}
 use Rattle.requests.specs.declared.State.the-variants.{Default, Addressed, Configured, Suspend as Suspended}
 use Rattle.requests.specs.declared.Kept.{Kept}
@@ -42,7 +36,7 @@ use Rattle.requests.specs.declared.Effect.{Effect}
 use Rattle.requests.specs.declared.Effect.the-variants.{Nothing as NoEffect, Wakeup, Halt, Unhalt, Address, Turn}
 use Rattle.requests.specs.declared.Decision.{Decision}
 use Rattle.requests.specs.declared.Decision.the-variants.{Stall as StallIt, Status, Byte, Describe, Tiles as TilesFrom, Accept as AcceptIt}
-use Rattle.requests.specs.Requests.{deviceIn, interfaceIn, endpointIn, standardIn, tilesFrom, tilesIn, vendorIn, decideIn, setAddress, deconfigured, setConfiguration, feature, deviceOut, interfaceOut, endpointOut, standardOut, decideOut, decideBy, decided, endpointOf}
+use Rattle.requests.specs.Requests.{decideBy, decided}
 use Rattle.answers.specs.declared.Verdict.{Verdict}
 use Rattle.answers.specs.declared.Verdict.the-variants.{Stall, Bytes, Tiles, Accept}
 use Rattle.answers.specs.Answers.{Answer, descriptorOf, told, described, answerOf, answer, verdictOf, bufferOf}
@@ -54,6 +48,7 @@ use Rattle.events.specs.declared.Arrival.{Arrival}
 use Rattle.events.specs.declared.Event.{Event}
 use Rattle.events.specs.declared.Event.the-variants.{Nothing, Reset, Suspend, Resume, Data}
 use Rattle.events.specs.Events.{Done, odd, arrived, takenBy, followed, dataCome, stateAfter, woken, happens, dull, handled}
+use Rattle.steady.proofs.Decisions.{decide-in-elim, decide-out-elim}
 use Rattle.steady.proofs.Moves.{begin-elim, arrived-elim, in-elim}
 
 -- ---- a good pipe, as facts
@@ -154,113 +149,13 @@ Fair book Describe = Unit {0}
 Fair book (TilesFrom start) = start ≤ book
 Fair book (AcceptIt e) = Allowed e
 
-module _ (book : ℕ) where
-  device-in : (k : Kept) (code : ℕ) → Fair book (deviceIn k code)
-  unfolding deviceIn
-  device-in k code =
-      cond-elim (Fair book) (eqb code 0) _ _ (λ e. tt)
-      (λ e. cond-elim (Fair book) (eqb code 6) _ _ (λ e. tt) (λ e. cond-elim (Fair book) (eqb code 8) _ _ (λ e. tt) (λ e. tt)))
-
-  interface-in : (code index : ℕ) → Fair book (interfaceIn code index)
-  unfolding interfaceIn
-  interface-in code index =
-      cond-elim (Fair book) (eqb code 0) _ _ (λ e. tt)
-      (λ e. cond-elim (Fair book) (eqb code 10) _ _ (λ e. cond-elim (Fair book) (leb index 255) _ _ (λ e. tt) (λ e. tt)) (λ e. tt))
-
-  endpoint-in : (k : Kept) (p : Pipe) (code index : ℕ) → Fair book (endpointIn k p code index)
-  unfolding endpointIn
-  endpoint-in k p code index = cond-elim (Fair book) (eqb code 0) _ _ (λ e. tt) (λ e. tt)
-
-  standard-in : (w : Recipient) (k : Kept) (p : Pipe) (q : Request) → Fair book (standardIn w k p q)
-  unfolding standardIn
-  standard-in Device k p q = device-in k (q .request)
-  standard-in Interface k p q = interface-in (q .request) (q .index)
-  standard-in Endpoint k p q = endpoint-in k p (q .request) (q .index)
-  standard-in Other k p q = tt
-  standard-in Reserved k p q = tt
-
-  tiles-from : (n : ℕ) → Fair book (tilesFrom (record { 0 = n }) book)
-  unfolding tilesFrom
-  tiles-from n = cond-elim (Fair book) (ltb n (book / tileSize)) _ _ (λ e. let l : n < book / 16 = ltb-true _ _ e in omega arith) (λ e. tt)
-
-  tiles-in : (q : Request) → Fair book (tilesIn q book)
-  unfolding tilesIn
-  tiles-in q = cond-elim (Fair book) (eqb (q .request) 1 && eqb (q .index) 0) _ _ (λ e. tiles-from (q .value)) (λ e. tt)
-
-  vendor-in : (w : Recipient) (q : Request) → Fair book (vendorIn w q book)
-  unfolding vendorIn
-  vendor-in Device q = tiles-in q
-  vendor-in Interface q = tt
-  vendor-in Endpoint q = tt
-  vendor-in Other q = tt
-  vendor-in Reserved q = tt
-
-  decide-in : (t : RequestType) (k : Kept) (p : Pipe) (q : Request) → Fair book (decideIn t k p q book)
-  unfolding decideIn
-  decide-in Standard k p q = standard-in (q .recipient) k p q
-  decide-in Class k p q = tt
-  decide-in Vendor k p q = vendor-in (q .recipient) q
-  decide-in ReservedType k p q = tt
-
-  set-address : (value : ℕ) → Fair book (setAddress value)
-  unfolding setAddress
-  set-address value = cond-elim (Fair book) (between 1 127 value) _ _ (λ e. leb-true value 127 (and-right (leb 1 value) (leb value 127) e)) (λ e. tt)
-
-  deconfigured-allowed : (s : State) → Allowed (deconfigured s)
-  deconfigured-allowed Default = tt
-  deconfigured-allowed Addressed = refl
-  deconfigured-allowed Configured = refl
-  deconfigured-allowed Suspended = refl
-
-  set-configuration : (s : State) (value : ℕ) → Fair book (setConfiguration s value)
-  unfolding setConfiguration
-  set-configuration s value =
-      cond-elim (Fair book) (eqb value 1) _ _ (λ e. refl) (λ e. cond-elim (Fair book) (eqb value 0) _ _ (λ e. deconfigured-allowed s) (λ e. tt))
-
-  feature-fair : (n value : ℕ) (e : Effect) → Allowed e → Fair book (feature n value e)
-  feature-fair n value e a = cond-elim (Fair book) (eqb value n) _ _ (λ t. a) (λ t. tt)
-
-  device-out : (s : State) (code value : ℕ) → Fair book (deviceOut s code value)
-  unfolding deviceOut
-  device-out s code value =
-      cond-elim (Fair book) (eqb code 1) _ _ (λ e. feature-fair 1 value (Wakeup false) tt)
-      (λ e. cond-elim (Fair book) (eqb code 3) _ _ (λ e. feature-fair 1 value (Wakeup true) tt)
-      (λ e. cond-elim (Fair book) (eqb code 5) _ _ (λ e. set-address value)
-      (λ e. cond-elim (Fair book) (eqb code 9) _ _ (λ e. set-configuration s value) (λ e. tt))))
-
-  interface-out : (code value index : ℕ) → Fair book (interfaceOut code value index)
-  unfolding interfaceOut
-  interface-out code value index = cond-elim (Fair book) (eqb code 11 && eqb value 0 && leb index 255) _ _ (λ e. tt) (λ e. tt)
-
-  endpoint-out : (code value index : ℕ) → Fair book (endpointOut code value index)
-  unfolding endpointOut
-  endpoint-out code value index =
-      cond-elim (Fair book) (eqb code 1) _ _ (λ e. feature-fair 0 value (Unhalt (endpointOf index)) tt)
-      (λ e. cond-elim (Fair book) (eqb code 3) _ _ (λ e. feature-fair 0 value (Halt (endpointOf index)) tt) (λ e. tt))
-
-  standard-out : (w : Recipient) (k : Kept) (q : Request) → Fair book (standardOut w k q)
-  unfolding standardOut
-  standard-out Device k q = device-out (k .state) (q .request) (q .value)
-  standard-out Interface k q = interface-out (q .request) (q .value) (q .index)
-  standard-out Endpoint k q = endpoint-out (q .request) (q .value) (q .index)
-  standard-out Other k q = tt
-  standard-out Reserved k q = tt
-
-  decide-out : (t : RequestType) (k : Kept) (q : Request) → Fair book (decideOut t k q)
-  unfolding decideOut
-  decide-out Standard k q = standard-out (q .recipient) k q
-  decide-out Class k q = tt
-  decide-out Vendor k q = tt
-  decide-out ReservedType k q = tt
-
-  decide-by : (d : Direction) (k : Kept) (p : Pipe) (q : Request) → Fair book (decideBy d k p q book)
-  unfolding decideBy
-  decide-by In k p q = decide-in (q .kind) k p q
-  decide-by Out k p q = decide-out (q .kind) k q
-
-  decided-fair : (k : Kept) (p : Pipe) → Fair book (decided k p book)
-  unfolding decided
-  decided-fair k p = decide-by (p .request .direction) k p (p .request)
+decided-fair : (book : ℕ) (k : Kept) (p : Pipe) → Fair book (decided k p book)
+unfolding decided decideBy
+decided-fair book k p = by (p .request .direction)
+  where
+    by : (d : Direction) → Fair book (decideBy d k p (p .request) book)
+    by In = decide-in-elim (Fair book) tt k (p .request) p book (λ n. tt) (λ n. tt) tt (λ n l. l) (p .request .kind)
+    by Out = decide-out-elim (Fair book) tt k (p .request) tt (λ on. tt) (λ e. tt) (λ e. tt) (λ a l t w c v. l) (λ s e. e)
 
 -- ---- .. and tells
 

@@ -1,4 +1,5 @@
 pub mod Actions
+pub mod Decisions
 pub mod Fit
 pub mod Keeps
 pub mod Kept
