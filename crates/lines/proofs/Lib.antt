@@ -1,0 +1,3 @@
+pub mod Laws
+pub mod Pinned
+pub mod Told
