@@ -1,0 +1,39 @@
+use borrow.Author.Needs.{needs}
+use native.Mathlib.Omega.{arith}
+use Rattle.troubles.proofs.stream.Statement.{statement}
+use Rattle.troubles.proofs.stream.Tie as tie
+
+abbrev Inv-loop : tie.InvT-loop
+Inv-loop number events p₀ turns₀ t7 p turns = Unit {0}
+
+abbrev μ-loop : tie.MeasureT-loop
+μ-loop number events p₀ turns₀ t7 p turns = turns
+
+loop-holds : tie.Need-loop-holds Inv-loop μ-loop
+loop-holds c = tt
+
+sub-turns : tie.Need-sub-turns Inv-loop μ-loop
+sub-turns c = omega arith
+
+loop-less : tie.Need-loop-less Inv-loop μ-loop
+loop-less c = omega arith
+
+loop-again : tie.Need-loop-again Inv-loop μ-loop
+loop-again c = tt
+
+pub stream-spec : {M : Type 1} → statement M
+stream-spec =
+    tie.close
+    (tie.spec
+    Inv-loop
+    μ-loop
+    (λ c κs. search needs)
+    (λ c κs. search needs)
+    loop-holds
+    (λ c κs. search needs)
+    sub-turns
+    loop-less
+    loop-again
+    (λ c. search needs)
+    (λ c κs. search needs)
+    (λ c. search needs))
