@@ -65,19 +65,35 @@ pub decimal-one : (n : ℕ) → n < 10 → digit n ∷ [] ≡ decimal n
 unfolding decimalIn
 decimal-one n h = rw (lt-ltb n 10 h)
 
-pub decimal-next : (n : ℕ) → n < 2 ^ 64 → 10 ≤ n → decimal (n / 10) ++ (digit (n % 10) ∷ []) ≡ decimal n
+decimal-next : (n : ℕ) → n < 2 ^ 64 → 10 ≤ n → decimal (n / 10) ++ (digit (n % 10) ∷ []) ≡ decimal n
 unfolding decimalIn tens
 decimal-next n h l =
     let m : n / 10 < tens 19 = omega (arith, h) in
     rw (le-ltb n 10 l) (ap (λ (x : List ℕ). x ++ (digit (n % 10) ∷ [])) (sym (decimal-more 19 (n / 10) m (omega arith))))
 
--- a number's other digits leave a place for its last
-pub decimal-fewer : (n : ℕ) → n < 2 ^ 64 → length (decimal (n / 10)) ≤ 19
+pub decimal-two : (n : ℕ) → 10 ≤ n → n < 100 → digit (n / 10) ∷ digit (n % 10) ∷ [] ≡ decimal n
+decimal-two n l h =
+    let k : n / 10 < 10 = omega arith in
+    let m : n < 2 ^ 64 = omega arith in
+    ap (λ (x : List ℕ). x ++ (digit (n % 10) ∷ [])) (decimal-one (n / 10) k) ∙ decimal-next n m l
+
+pub decimal-hundreds : (n : ℕ) → n < 2 ^ 64 → 100 ≤ n → decimal (n / 100) ++ (digit (n / 10 % 10) ∷ digit (n % 10) ∷ []) ≡ decimal n
+decimal-hundreds n h l =
+    let k : n / 10 < 2 ^ 64 = omega arith in
+    let m : 10 ≤ n / 10 = omega arith in
+    let o : 10 ≤ n = omega arith in
+    let e : n / 100 ≡ n / 10 / 10 = omega arith in
+    let x : decimal (n / 100) ++ (digit (n / 10 % 10) ∷ []) ≡ decimal (n / 10) = rw e (decimal-next (n / 10) k m) in
+    sym (append-assoc (decimal (n / 100)) (digit (n / 10 % 10) ∷ []) (digit (n % 10) ∷ [])) ∙ (ap (λ (y : List ℕ). y ++ (digit (n % 10) ∷ [])) x ∙ decimal-next n h o)
+
+-- a number's other digits leave two places
+pub decimal-fewer : (n : ℕ) → n < 2 ^ 64 → length (decimal (n / 100)) ≤ 18
 unfolding tens
 decimal-fewer n h =
-    let m : n / 10 < tens 19 = omega (arith, h) in
-    let e = decimal-more 19 (n / 10) m (omega arith) in
-    rw (← e) (decimal-most 19 (n / 10))
+    let k : n / 100 < tens 18 = omega (arith, h) in
+    let m : n / 100 < tens 19 = omega (arith, h) in
+    let e = decimal-more 18 (n / 100) k (omega arith) ∙ decimal-more 19 (n / 100) m (omega arith) in
+    rw (← e) (decimal-most 18 (n / 100))
 
 -- ---- how long a word and a line can be
 
