@@ -74,12 +74,12 @@ def bus(*kinds):
 
 
 def notes():
-    """Field notes 9 to 12, each after a reset."""
+    """Field notes 9 to 12, a stream for each."""
     note_9 = setup("4002000000000400") + out(bytes(range(1, 9)))
     note_10 = out() + bus("reset") + out(b"abc")
     note_11 = setup("0005050000000000") + done()
     note_12 = setup("0005050000000000", False) + setup("0009010000000000") + done()
-    return bus("reset").join([note_9, note_10, note_11, note_12])
+    return [note_9, note_10, note_11, note_12]
 
 
 def example():
@@ -194,10 +194,10 @@ def write(path, content):
 
 
 def main():
-    stream = notes() + transferred() + troubled(1, 1100) + bus("reset")[:79]
+    stream = bus("reset").join(notes()) + bus("reset") + transferred() + troubled(1, 1100) + bus("reset")[:79]
     write("crates/replay/stdin", stream)
     write("crates/replay/stdout", replayed(stream))
-    streams = malformed() + partial() + odd()
+    streams = [(1, note) for note in notes()] + malformed() + partial() + odd()
     write("crates/troubles/stdin", b"".join(struct.pack("<QH", n, len(s)) + s for n, s in streams))
     write("crates/troubles/stdout", "".join(replayed(s, n) + "-\n" for n, s in streams))
     write("examples/enumeration.events", example())

@@ -1,4 +1,4 @@
--- The lines of trace entries, and of a run through event records.
+-- Document 01, module 5 (replay): the lines of a run through event records, and the line of one trace entry.
 use Prim.Native.Nat.{ℕ, zero, suc, _+_, _-_, _*_, _/_, _%_, _^_}
 use mathlib.Core.Bool.{cond, _&&_}
 use mathlib.Core.List.{List, [], _∷_, _++_}
@@ -25,7 +25,7 @@ use Rattle.lines.specs.Lines.{lineOf, badLine}
 
 -- ---- a line from a trace entry
 
--- what the codes of Trace.antt stand for (`Told.line-reads` shows it of every entry that a run writes)
+-- what the codes of Trace.antt stand for; by `Told.line-reads` the line of an entry is `lineOf` of its state, actions and packet
 abbrev pub stateAt : ℕ → State
 stateAt code = getD (Default ∷ Addressed ∷ Configured ∷ []) code Suspended
 
@@ -68,7 +68,7 @@ lineIn n entry out at = cond (eqb (length entry) entryRoom && leb (at + lineRoom
 
 -- ---- the lines of a run
 
--- numbers of 64 bits
+-- numbers of 64 bits: 0 follows the last
 abbrev pub after : ℕ → ℕ
 after n = (n + 1) % 2 ^ 64
 
