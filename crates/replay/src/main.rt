@@ -8,6 +8,8 @@ use libc::STDERR_FILENO;
 use libc::STDIN_FILENO;
 use libc::STDOUT_FILENO;
 use records::EVENT;
+ghost use mathlib.Core.Path.{_≡_};
+ghost use Rattle.common.specs.Bytes.{stored};
 
 // The bytes of a read, and the rooms of the trace entries and the lines of the 819 event records in them.
 const READ: usize = 65536;
@@ -92,8 +94,10 @@ fn tell(p: Place, buf: &[u8], n: usize, trace: &mut [u8], out: &mut [u8]) -> Pla
     }
 }
 
-// Moves n bytes from a place on to the front.
-fn shift(buf: &mut [u8], from: usize, n: usize) {
+// Moves n bytes from a place on to the front; where they run past the end, nothing.
+fn shift(buf: &mut [u8], from: usize, n: usize)
+    ensures { λ r. ⌜ now (buf .exit) ≡ stored (now (buf .entry)) 0 (now (buf .entry)) from n ⌝ }
+{
     if !common::within(buf.len(), from, n) {
         return;
     }
