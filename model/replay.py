@@ -197,7 +197,7 @@ def main():
     stream = bus("reset").join(notes()) + bus("reset") + transferred() + troubled(1, 1100) + bus("reset")[:79]
     write("crates/replay/stdin", stream)
     write("crates/replay/stdout", replayed(stream))
-    streams = [(1, note) for note in notes()] + malformed() + partial() + odd()
+    streams = [(1, s) for s in [example()] + notes()] + malformed() + partial() + odd()
     write("crates/troubles/stdin", b"".join(struct.pack("<QH", n, len(s)) + s for n, s in streams))
     write("crates/troubles/stdout", "".join(replayed(s, n) + "-\n" for n, s in streams))
     write("examples/enumeration.events", example())
