@@ -48,19 +48,18 @@ fn write_at(n: u8) -> Write
     }
 }
 
-// Whether the bytes from a place on, below another, are all 0.
+// Whether the bytes from a place on, below another, are all 0. It looks at all of them, so that a compiler can take many at once.
 fn zeros(s: &[u8], from: usize, to: usize) -> bool
     requires { ⌜ to ≤ length (now s) ⌝ }
     ensures { λ r. ⌜ r ≡ every isZero (drop from (take to (now (s .entry)))) ⌝ }
 {
+    let mut seen: u8 = 0;
     let mut i = from;
     while i < to {
-        if s[i] != 0 {
-            return false;
-        }
+        seen |= s[i];
         i += 1;
     }
-    true
+    seen == 0
 }
 
 fn data_fine(s: &[u8]) -> bool
