@@ -51,7 +51,7 @@ use Rattle.steady.proofs.Moves.{begin-elim, arrived-elim, in-elim}
 use Rattle.promises.specs.History.{Moment, happens, powers, asks, after, shown}
 use Rattle.promises.specs.Transfers.{isPacket, accepts, All}
 use Rattle.promises.specs.Addresses.{lastBy, lastAfter, Tale, further, tale, opening, Names, Named, Acts, Addresses, tickOf, ticks, Completed, decidedBy, decides}
-use Rattle.promises.proofs.Reset.{step-taken}
+use Rattle.steady.proofs.Usable.{step-taken}
 use Rattle.promises.proofs.Cut.{accepted}
 use Rattle.promises.proofs.Sent.{step-refused, kept-profile, all-append, all-slots}
 use Rattle.promises.proofs.Transfer.{accepts-setup, is-packet, effected-stage}

@@ -5,7 +5,7 @@ use mathlib.Core.Path.{_≡_, refl, sym, ap, ap₂, subst, subst⁻¹, _∙_}
 use mathlib.Core.List.{List, [], _∷_, _++_}
 use native.Mathlib.Omega.{arith}
 use native.Mathlib.Nat.{div-eq-of-lt, div-eq-sub-div, div-self, sub-zero, add-zero}
-use borrow.Author.Tests.{eq-eqb, le-leb, leb-true, leb-false, eqb-true, eqb-false}
+use borrow.Author.Tests.{leb-true, leb-false, eqb-true, eqb-false}
 use lib.Dec.{eqb, leb}
 use lib.ListN.{length, take, drop, length-append, length-take, length-drop}
 use Rattle.common.specs.Bytes.{front}
@@ -33,7 +33,7 @@ use Rattle.requests.specs.declared.Decision.the-variants.{Stall, Status, Byte, 
 use Rattle.requests.specs.Requests.{decideOut, decideBy, decided}
 use Rattle.answers.specs.Answers.{Answer, stall, tell, tiles, accept, answerOf, answer, bytesOf}
 use Rattle.live.specs.declared.Live.{Live}
-use Rattle.live.specs.Live.{awake, liveFine, unfit, stepRefusal}
+use Rattle.live.specs.Live.{awake, liveFine, unfit}
 use Rattle.effects.specs.declared.Action.the-variants.{Nothing as NoAction}
 use Rattle.effects.specs.Effects.{Second, withPipe, setOut, turned, addressed, ticked}
 use Rattle.events.specs.declared.Write.{Write}
@@ -45,12 +45,11 @@ use Rattle.events.specs.Events.{Done, odd, arrived, replied, takenBy, followed,
 use Rattle.device.specs.declared.Device.{Device}
 use Rattle.device.specs.declared.Stepped.{Stepped}
 use Rattle.device.specs.Device.{refusedBy, unfitDevice, done}
-use Rattle.steady.proofs.Kept.{kept-book}
-use Rattle.steady.proofs.Fit.{both, step-fit}
+use Rattle.steady.proofs.Fit.{both}
 use Rattle.promises.specs.History.{Moment, happens, powers, asks, after, shown}
 use Rattle.promises.specs.Transfers.{packets, gone, Log, next, opens, follow, owedBy, answerTo}
 use Rattle.promises.specs.Counts.{speaks, Completion, Complete}
-use Rattle.promises.proofs.Reset.{Usable, usable, step-taken}
+use Rattle.steady.proofs.Usable.{Ready, ready-taken, ready-after, Usable, usable, step-taken}
 use Rattle.promises.proofs.Cut.{accepted, data-done}
 use Rattle.promises.proofs.Sent.{gone-taken, kept-profile}
 use Rattle.promises.proofs.Transfer.{Bare, bare}
@@ -194,23 +193,7 @@ module _ (d : Device) (a : Arrival) (book s room : List ℕ) (z : refusedBy d bo
       by StatusIn e g = absurd g
       by Error e g = absurd g
 
--- ---- a device that may be stepped, with its book
-
-record Ready (book : List ℕ) (d : Device) : Type 0 where
-  fit : unfitDevice d ≡ 0
-  same : length book ≡ d .live .book
-
-ready-taken : (d : Device) (book room : List ℕ) → Ready book d → d .profile .plan .basics .packet ≤ length room → refusedBy d book room ≡ 0
-unfolding stepRefusal
-ready-taken d book room f l = rw (f .fit, f .same, le-leb (d .profile .plan .basics .packet) (length room) l) (simp eq-eqb)
-
-ready-after : (d : Device) (book : List ℕ) (e : Event) (s room : List ℕ) → Ready book d → refusedBy d book room ≡ 0 → Ready book (after d (happens e book s room))
-unfolding after
-ready-after d book e s room f z =
-    record {
-      fit = step-fit d book e s room (f .fit);
-      same = f .same ∙ (sym (kept-book e (d .profile) s book (d .live) (d .buffer)) ∙ sym (ap (λ (x : Stepped). x .device .live .book) (step-taken d book e s room z)));
-    }
+-- ---- the packet size
 
 member-positive : (n : ℕ) → packetFine n ≡ true → 0 < n
 unfolding packetFine member
@@ -245,6 +228,7 @@ module _ (book : List ℕ) (g : Log) (f : Ready book (g .device)) where
     next-tick = rw (c .setup, and-false (eqb (refusedBy (g .device) book room) 0)) refl
 
     next-ready : Ready book (next g m₀ .device)
+    unfolding after
     next-ready = subst⁻¹ (λ (x : Log). Ready book (x .device)) next-tick (ready-after (g .device) book (Data a) s room f z₀)
 
     next-size : next g m₀ .device .profile .plan .basics .packet ≡ size₀
@@ -420,6 +404,7 @@ module _ (g : Log) (a : Arrival) (book s room : List ℕ) (ms : List Moment) (z 
   begun-log = rw (z, o, x, e) refl
 
   all-ticks : Ticked packet (answered / packet) (length ms) (next g asked) (follow (next g asked) ms)
+  unfolding after
   all-ticks =
       let v = setup-counts (g .device) a book s room z o x e w y in
       let u = usable (g .device) book room z in

@@ -48,7 +48,7 @@ use Rattle.device.specs.declared.Stepped.{Stepped}
 use Rattle.device.specs.Device.{refusedBy, steppedTo}
 use Rattle.steady.proofs.Decisions.{decide-in-elim}
 use Rattle.promises.specs.History.{Agree, Moment, happens, after, seen}
-use Rattle.promises.proofs.Reset.{usable, step-taken}
+use Rattle.steady.proofs.Usable.{usable, step-taken}
 use Rattle.promises.proofs.Halts.{cond-both, keptWith, Close, Kin, Alike, followed-kin, bit-equal, alike-seen}
 
 -- ---- an IN request leaves what outlives a SETUP

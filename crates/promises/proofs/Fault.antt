@@ -31,7 +31,7 @@ use Rattle.promises.specs.History.{after, ends}
 use Rattle.promises.specs.Transfers.{answerTo}
 use Rattle.promises.specs.Counts.{speaks}
 use Rattle.promises.specs.Fault.{replyOf, firstPacket, theirs, ours, mast, book, describe, gaveUp, nothing}
-use Rattle.promises.proofs.Reset.{usable}
+use Rattle.steady.proofs.Usable.{usable}
 use Rattle.promises.proofs.Count.{fit-positive, sets, out-silent, setup-done}
 
 -- With the Rust's rule a laptop that gave up a read of the book, and then asks for the device descriptor, is answered with bytes of

@@ -29,7 +29,7 @@ use Rattle.steady.proofs.Actions.{five, write-last}
 use Rattle.steady.proofs.Packets.{toldLength, short}
 use Rattle.promises.specs.History.{Moment, happens, powers, asks, after, shown, seen}
 use Rattle.promises.specs.Transfers.{takenOf, packets, gone, joined, lengthOf, All, Within, Bounded}
-use Rattle.promises.proofs.Reset.{step-taken}
+use Rattle.steady.proofs.Usable.{step-taken}
 
 -- the packet, if the bus was told that it took one
 abbrev pub tookOf : Told → List ℕ → List ℕ

@@ -51,7 +51,7 @@ use Rattle.steady.proofs.Packets.{short}
 use Rattle.promises.specs.History.{Moment, happens, powers, asks, after, shown}
 use Rattle.promises.specs.Transfers.{isPacket, accepts, opens, owedBy, gone, joined, Log, next, follow, Lends, begin}
 use Rattle.promises.proofs.Cut.{accepted as accepted-setup, data-done}
-use Rattle.promises.proofs.Reset.{Usable, usable, step-taken}
+use Rattle.steady.proofs.Usable.{Usable, usable, step-taken}
 use Rattle.promises.proofs.Sent.{tookOf, Exact, joined-append, listed-took, step-refused, gone-refused, gone-taken}
 
 -- ---- lists

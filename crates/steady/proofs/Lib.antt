@@ -7,3 +7,4 @@ pub mod Moves
 pub mod Packets
 pub mod Pinned
 pub mod Sharp
+pub mod Usable
