@@ -2,7 +2,7 @@
 use Prim.Native.Nat.{ℕ, suc, _+_, _-_, _*_, _/_, _%_, _≤_, _<_, min}
 use mathlib.Core.Bool.{Bool, true, false, cond, _&&_}
 use mathlib.Core.Path.{_≡_, refl, sym, ap, ap₂, _∙_}
-use mathlib.Core.List.{List, [], _∷_, _++_, append-assoc, append-nil}
+use mathlib.Core.List.{List, [], _++_, append-assoc, append-nil}
 use native.Mathlib.Omega.{arith}
 use borrow.Author.Tests.{leb-true, leb-false, eq-eqb, ne-eqb, eqb-true, eqb-false}
 use lib.Dec.{eqb, leb}
@@ -15,7 +15,7 @@ use Rattle.common.specs.declared.Refusal.the-variants.{None}
 use Rattle.common.proofs.Laws.{cond-elim, and-left, and-right, stored-whole, length-placed, placed-nil, placed-more}
 use Rattle.requests.specs.declared.State.{State}
 use Rattle.events.specs.declared.Handled.{Handled}
-use Rattle.events.specs.Events.{Came, Done, handled, handledOf}
+use Rattle.events.specs.Events.{Came, handledOf}
 use Rattle.device.specs.declared.Device.{Device}
 use Rattle.device.specs.declared.Polled.{Polled}
 use Rattle.device.specs.Device.{refusedBy, polledOf, stepOf, roomOf, done}
@@ -33,6 +33,7 @@ use Rattle.live.specs.declared.Live.{Live}
 use Rattle.device.proofs.Laws.{step-named}
 use native.Mathlib.Nat.{zero-add, add-zero, sub-zero}
 use Rattle.stream.specs.Trace.{entryRoom, topRoom, topBytes}
+use Rattle.steady.proofs.Usable.{taken-again}
 use Rattle.stream.specs.Stream.{Turning, Running, Turn, Run, ranOf, deviceOf, clean, turned, turnBy, turn, stopped, longer, runs, turnsBy}
 
 -- ---- an event record that is read has 80 bytes and a packet of at most 64
@@ -255,6 +256,22 @@ pub turn-device : {l : Live} {b : List ℕ} (d : Device) (t : Turn) → Sound d 
 turn-device d t f p q =
     ap₂ (λ (x : Live) (y : List ℕ). deviceOf (d .profile) x y) p q ∙ ap (λ (r : Record). deviceOf r (t .device .live) (t .device .buffer)) (sym (f .profile))
 
+-- a turn that no number refuses leads to one that none refuses
+turn-fit : (d : Device) (book s : List ℕ) → turn d book s .number ≡ 0 → (refusedBy d book clean ≡ 0) × (refusedBy (turn d book s .device) book clean ≡ 0)
+unfolding turnBy turned
+turn-fit d book s e = by (knownOf s) (ten s) e
+  where
+    by : (k : Known) → Ten k → turnBy k d book s .number ≡ 0 → (refusedBy d book clean ≡ 0) × (refusedBy (turnBy k d book s .device) book clean ≡ 0)
+    by (Refused why) t e = absurd (let x : _≡_ {A = ℕ} 10 0 = sym (ap numberOf t) ∙ e in omega (arith, x))
+    by (Good h) t e = at (eqb (refusedBy d book clean) 0) refl
+      where
+        at : (b : Bool) → eqb (refusedBy d book clean) 0 ≡ b → (refusedBy d book clean ≡ 0) × (refusedBy (turned d book h s .device) book clean ≡ 0)
+        at true z =
+            let y = eqb-true (refusedBy d book clean) 0 z in
+            let x : turned d book h s .device ≡ stepOf d book (h .event) (part headRoom (h .length) s) clean .device = rw z refl in
+            (y, ap (λ (i : Device). refusedBy i book clean) x ∙ taken-again d book (h .event) (part headRoom (h .length) s) clean y)
+        at false z = absurd (eqb-false (refusedBy d book clean) 0 z (rw z at e))
+
 -- ---- the three ways on from a turn, from what the calls ensure
 
 module _ (book events entry : List ℕ) (d₀ : Device) (n i : ℕ) (r : Record) (live : Live) (buffer trace : List ℕ)
@@ -296,6 +313,13 @@ module _ (book events entry : List ℕ) (d₀ : Device) (n i : ℕ) (r : Record)
         let w = run-turn book (runs n d₀ book events) (deviceOf r live buffer) n i (take (entryRoom * i) trace) events l whole y in
         let g = turn-device (deviceOf r live buffer) here fine (t .live) (t .held) in
         (w ∙ ap₂ (λ (b : List ℕ) (d : Device). longer b (i + 1) (runs (n - (i + 1)) d book (drop (eventRoom * (i + 1)) events))) (sym (x .0)) (sym g), x .1, x .2)
+
+    -- what refuses a step is the same as before
+    pub run-fit : {why : Refusal} → k ≡ 0 → why ≡ refusal (refusedBy (deviceOf r live buffer) book clean) → why ≡ refusal (refusedBy (deviceOf r (o .live) buffer₁) book clean)
+    run-fit z e =
+        let f = turn-fit (deviceOf r live buffer) book (take eventRoom (drop (eventRoom * i) events)) (sym asked ∙ z) in
+        let g = turn-device (deviceOf r live buffer) here fine (t .live) (t .held) in
+        e ∙ (ap refusal (f .0) ∙ sym (ap refusal (ap (λ (d : Device). refusedBy d book clean) g ∙ f .1)))
 
   pub run-over : {x : Ran} → n ≤ i → i ≤ n → x ≡ record { device = deviceOf r live buffer; count = n; refusal = None } → Running x trace (runs n d₀ book events) entry
   run-over {x} h j e =

@@ -23,7 +23,9 @@ ghost use Rattle.common.specs.Bytes.{placed};
 ghost use Rattle.answers.specs.Answers.{parts};
 ghost use Rattle.records.specs.Sizes.{eventRoom, packetRoom};
 ghost use Rattle.stream.specs.Trace.{entryRoom, topRoom, stateCode, actionCode, argumentOf, topBytes};
-ghost use Rattle.stream.specs.Stream.{Turning, Running, deviceOf, turned, turn, turnsBy, runOf};
+ghost use Rattle.common.specs.Refusals.{refusal};
+ghost use Rattle.device.specs.Device.{refusedBy};
+ghost use Rattle.stream.specs.Stream.{Turning, Running, clean, deviceOf, turned, turn, turnsBy, runOf};
 
 // The bytes of a trace entry: its head, then the packet, zero-filled to 64.
 pub const ENTRY: usize = 82;
@@ -136,8 +138,9 @@ fn put_top(state: State, polled: Polled, trace: &mut [u8], at: usize)
     common::put(&top, 0, TOP, trace, at);
 }
 
-// A step with the record's event and packet, and its trace entry.
+// A step with the record's event and packet, and its trace entry; `why` is what refuses it.
 fn advance<'a>(
+    why: Refusal,
     plan: Plan,
     ids: &'a [u16; LANGUAGES],
     lens: &'a [u8; STRINGS],
@@ -150,10 +153,9 @@ fn advance<'a>(
     trace: &mut [u8],
     at: usize,
 ) -> One
-    requires { ⌜ (length (now s) ≡ eventRoom) × (h .length ≤ packetRoom) × (at + entryRoom ≤ length (now trace)) ⌝ }
+    requires { ⌜ (length (now s) ≡ eventRoom) × (h .length ≤ packetRoom) × (at + entryRoom ≤ length (now trace)) × (why ≡ refusal (refusedBy (deviceOf (parts plan (now ids) (now lens) (now units)) live (now buffer)) (now book) clean)) ⌝ }
     ensures { λ r. ⌜ Turning r (now (buffer .exit)) (now (trace .exit)) (turned (deviceOf (parts plan (now (ids .entry)) (now (lens .entry)) (now (units .entry))) live (now (buffer .entry))) (now (book .entry)) h (now (s .entry))) (now (trace .entry)) at ⌝ }
 {
-    let why = live::step_refusal(plan, ids, lens, live, book.len(), PACKET);
     if why.number() != 0 {
         return One { live, refusal: why };
     }
@@ -185,6 +187,7 @@ fn advance<'a>(
 
 // One event record, and its trace entry; a record or a step that is refused writes none.
 fn single<'a>(
+    why: Refusal,
     plan: Plan,
     ids: &'a [u16; LANGUAGES],
     lens: &'a [u8; STRINGS],
@@ -196,13 +199,26 @@ fn single<'a>(
     trace: &mut [u8],
     at: usize,
 ) -> One
-    requires { ⌜ at + entryRoom ≤ length (now trace) ⌝ }
+    requires { ⌜ (at + entryRoom ≤ length (now trace)) × (why ≡ refusal (refusedBy (deviceOf (parts plan (now ids) (now lens) (now units)) live (now buffer)) (now book) clean)) ⌝ }
     ensures { λ r. ⌜ Turning r (now (buffer .exit)) (now (trace .exit)) (turn (deviceOf (parts plan (now (ids .entry)) (now (lens .entry)) (now (units .entry))) live (now (buffer .entry))) (now (book .entry)) (now (s .entry))) (now (trace .entry)) at ⌝ }
 {
     let known = records::read(s);
     match known {
-        Known::Good(h) => advance(plan, ids, lens, units, live, h, s, buffer, book, trace, at),
-        Known::Refused(why) => One { live, refusal: why },
+        Known::Good(h) => advance(
+            why,
+            plan,
+            ids,
+            lens,
+            units,
+            live,
+            h,
+            s,
+            buffer,
+            book,
+            trace,
+            at,
+        ),
+        Known::Refused(bad) => One { live, refusal: bad },
     }
 }
 
@@ -257,12 +273,15 @@ pub fn run(device: Device, book: &[u8], events: &[u8], trace: &mut [u8]) -> Ran
     let units = device.profile.units;
     let mut live = device.live;
     let mut buffer = device.buffer;
+    // once is enough: no step leaves a device that the next may not have
+    let why = live::step_refusal(plan, &ids, &lens, live, book.len(), PACKET);
     let n = turns(events.len(), trace.len());
     let mut i: usize = 0;
     while i < n {
         let from = EVENT * i;
         let to = until(from, events.len());
         let o = single(
+            why,
             plan,
             &ids,
             &lens,
@@ -274,9 +293,9 @@ pub fn run(device: Device, book: &[u8], events: &[u8], trace: &mut [u8]) -> Ran
             trace,
             ENTRY * i,
         );
-        let why = o.refusal;
-        if why.number() != 0 {
-            return ended(device, live, buffer, i, why);
+        let stop = o.refusal;
+        if stop.number() != 0 {
+            return ended(device, live, buffer, i, stop);
         }
         let next = o.live;
         live = next;

@@ -9,7 +9,7 @@ use Rattle.stream.proofs.single.Statement.{statement}
 use Rattle.stream.proofs.single.Tie as tie
 
 advance-requires : tie.Need-advance-requires
-advance-requires c κs = let k = known-good (now (c .before .before .before .before .before .before .before .before .before .args .s)) (c .before .before .before .known .given .0 .0) (sym (c .before .before .before .before .before .read .ensures) ∙ c .before .before .before .known .given .1) in (k .0, k .1, c .before .before .before .before .before .before .before .before .before .pre)
+advance-requires c κs = let k = known-good (now (c .before .before .before .before .before .before .before .before .before .args .s)) (c .before .before .before .known .given .0 .0) (sym (c .before .before .before .before .before .read .ensures) ∙ c .before .before .before .known .given .1) in (k .0, k .1, c .before .before .before .before .before .before .before .before .before .pre .0, c .before .before .before .before .before .before .before .before .before .pre .1)
 
 returns : tie.Need-returns
 unfolding turnBy
