@@ -1,2 +1,4 @@
+pub mod Inverse
 pub mod Lengths
+pub mod Numbers
 pub mod Walks
