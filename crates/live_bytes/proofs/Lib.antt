@@ -1,3 +1,4 @@
 pub mod Codes
 pub mod Inverse
 pub mod Lengths
+pub mod Pinned

@@ -1,0 +1,112 @@
+// The mast's device for programs in C and Rust: include/mast.h declares these functions. A caller holds the device as bytes, and
+// lends them, the book, the events and the room to each call. Any bytes get an answer.
+use common::Refusal;
+use device::Device;
+use record_bytes::RECORD;
+use state::STATE;
+ghost use mathlib.Core.Path.{_≡_};
+ghost use Prim.Native.Nat.{_≤_};
+ghost use Rattle.common.specs.Refusals.{numberOf};
+ghost use Rattle.state.specs.State.{stateSize};
+ghost use Rattle.link.specs.Link.{Building, Running, Handing, Setting, answerOf, buildNumber};
+
+// A count and the number of a refusal in one answer.
+fn answer(count: usize, why: Refusal) -> usize
+    requires { ⌜ count ≤ 1000000000000000000 ⌝ }
+    ensures { λ r. ⌜ r ≡ answerOf count (numberOf why) ⌝ }
+{
+    16 * count + why.number() as usize
+}
+
+// How many bytes a state has.
+#[no_mangle]
+pub extern "C" fn mast_size() -> usize
+    ensures { λ r. ⌜ r ≡ stateSize ⌝ }
+{
+    STATE
+}
+
+// The number of a record whose bytes are coded or not, of which the rules gave a number.
+fn sooner(coded: bool, number: u8) -> u8 {
+    if coded {
+        return number;
+    }
+    if number == 1 {
+        return 1;
+    }
+    2
+}
+
+// A state from a record and the length of a book: refusals 1 to 4, and 9 where the state has another length.
+#[no_mangle]
+pub extern "C" fn mast_build(record: &[u8], book: usize, state: &mut [u8]) -> u8
+    ensures { λ r. ⌜ Building r (now (state .exit)) (now (record .entry)) book (now (state .entry)) ⌝ }
+{
+    if record.len() != RECORD {
+        return Refusal::PacketSize.number();
+    }
+    let mut bytes = [0u8; RECORD];
+    common::put(record, 0, RECORD, &mut bytes, 0);
+    let built = Device::build(record_bytes::read(&bytes), book);
+    let why = built.refusal;
+    let number = sooner(record_bytes::fine(&bytes), why.number());
+    if number != 0 {
+        return number;
+    }
+    let device = built.device;
+    state::write(device, state).number()
+}
+
+// A run of the device through event records: 16 times how many it took, and the number that stopped it.
+#[no_mangle]
+pub extern "C" fn mast_run(state: &mut [u8], book: &[u8], events: &[u8], trace: &mut [u8]) -> usize
+    ensures { λ r. ⌜ Running r (now (state .exit)) (now (trace .exit)) (now (state .entry)) (now (book .entry)) (now (events .entry)) (now (trace .entry)) ⌝ }
+{
+    let held = state::read(state);
+    let why = held.refusal;
+    if why.number() != 0 {
+        return answer(0, why);
+    }
+    let device = held.device;
+    let ran = stream::run(device, book, events, trace);
+    let next = ran.device;
+    state::write(next, state);
+    let stop = ran.refusal;
+    answer(ran.count, stop)
+}
+
+// The OUT data goes to the front of the room: 16 times how many bytes, and the number of the refusal.
+#[no_mangle]
+pub extern "C" fn mast_data(state: &[u8], room: &mut [u8]) -> usize
+    ensures { λ r. ⌜ Handing r (now (room .exit)) (now (state .entry)) (now (room .entry)) ⌝ }
+{
+    let held = state::read(state);
+    let why = held.refusal;
+    if why.number() != 0 {
+        return answer(0, why);
+    }
+    let device = held.device;
+    let handed = device.data(room);
+    let refusal = handed.refusal;
+    answer(handed.count, refusal)
+}
+
+// Whether the device is self-powered now.
+#[no_mangle]
+pub extern "C" fn mast_set_self_powered(state: &mut [u8], on: bool) -> u8
+    ensures { λ r. ⌜ Setting r (now (state .exit)) (now (state .entry)) on ⌝ }
+{
+    let held = state::read(state);
+    let why = held.refusal;
+    if why.number() != 0 {
+        return why.number();
+    }
+    let device = held.device;
+    let set = device.set_self_powered(on);
+    let refusal = set.refusal;
+    if refusal.number() != 0 {
+        return refusal.number();
+    }
+    let next = set.device;
+    state::write(next, state).number()
+}
