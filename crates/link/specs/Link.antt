@@ -19,12 +19,16 @@ answerOf count number = 16 * count + number
 
 -- ---- building
 
+-- what the rules gave of bytes that are coded or not
+abbrev pub sooner : Bool → ℕ → ℕ
+sooner coded n = cond coded n (cond (eqb n 1) 1 2)
+
 -- bytes that are no record get the number of the first rule that they break: 1 where their length is another, since they have
 -- no packet size; else 2 where a flag or a kind is no code, after 1 of the packet size
 unfoldable pub buildNumber : List ℕ → ℕ → ℕ
 buildNumber s book =
     let n = buildRefusal (recordOf s) book in
-    cond (eqb (length s) recordSize) (cond (recordCoded s) n (cond (eqb n 1) 1 2)) 1
+    cond (eqb (length s) recordSize) (sooner (recordCoded s) n) 1
 
 -- then 9 where the state has another length
 unfoldable pub builtNumber : List ℕ → ℕ → List ℕ → ℕ
@@ -51,10 +55,10 @@ ranState state book events trace = cond (stateCoded state) (bytesOf (running sta
 unfoldable pub ranTrace : List ℕ → List ℕ → List ℕ → List ℕ → List ℕ
 ranTrace state book events trace = cond (stateCoded state) (placed trace 0 (running state book events trace .bytes)) trace
 
-pub record Running (r : ℕ) (exit exitTrace : List ℕ) (state book events trace : List ℕ) : Type 0 where
-  pub value : r ≡ ranNumber state book events trace
-  pub state : exit ≡ ranState state book events trace
-  pub trace : exitTrace ≡ ranTrace state book events trace
+pub record Running (r : ℕ) (exit written : List ℕ) (s book events t : List ℕ) : Type 0 where
+  pub value : r ≡ ranNumber s book events t
+  pub state : exit ≡ ranState s book events t
+  pub trace : written ≡ ranTrace s book events t
 
 -- ---- the OUT data
 
@@ -64,9 +68,9 @@ dataNumber state room = let x = handedOf (deviceOf state) (length room) in cond 
 unfoldable pub dataRoom : List ℕ → List ℕ → List ℕ
 dataRoom state room = cond (stateCoded state) (handedRoom (deviceOf state) room) room
 
-pub record Handing (r : ℕ) (exit : List ℕ) (state room : List ℕ) : Type 0 where
-  pub value : r ≡ dataNumber state room
-  pub room : exit ≡ dataRoom state room
+pub record Handing (r : ℕ) (exit : List ℕ) (s entry : List ℕ) : Type 0 where
+  pub value : r ≡ dataNumber s entry
+  pub room : exit ≡ dataRoom s entry
 
 -- ---- the self-powered flag
 
@@ -76,6 +80,6 @@ flagNumber state = cond (stateCoded state) (unfitDevice (deviceOf state)) 9
 unfoldable pub flagState : List ℕ → Bool → List ℕ
 flagState state on = cond (eqb (flagNumber state) 0) (bytesOf (withPowered on (deviceOf state))) state
 
-pub record Setting (r : ℕ) (exit : List ℕ) (state : List ℕ) (on : Bool) : Type 0 where
-  pub value : r ≡ flagNumber state
-  pub state : exit ≡ flagState state on
+pub record Setting (r : ℕ) (exit : List ℕ) (s : List ℕ) (on : Bool) : Type 0 where
+  pub value : r ≡ flagNumber s
+  pub state : exit ≡ flagState s on

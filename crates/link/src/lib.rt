@@ -5,14 +5,14 @@ use device::Device;
 use record_bytes::RECORD;
 use state::STATE;
 ghost use mathlib.Core.Path.{_≡_};
-ghost use Prim.Native.Nat.{_≤_};
+ghost use Prim.Native.Nat.{_+_, _*_, _^_, _≤_};
 ghost use Rattle.common.specs.Refusals.{numberOf};
 ghost use Rattle.state.specs.State.{stateSize};
-ghost use Rattle.link.specs.Link.{Building, Running, Handing, Setting, answerOf, buildNumber};
+ghost use Rattle.link.specs.Link.{Building, Running, Handing, Setting, answerOf, sooner};
 
 // A count and the number of a refusal in one answer.
 fn answer(count: usize, why: Refusal) -> usize
-    requires { ⌜ count ≤ 1000000000000000000 ⌝ }
+    requires { ⌜ 16 * count + 256 ≤ 2 ^ 64 ⌝ }
     ensures { λ r. ⌜ r ≡ answerOf count (numberOf why) ⌝ }
 {
     16 * count + why.number() as usize
@@ -27,7 +27,9 @@ pub extern "C" fn mast_size() -> usize
 }
 
 // The number of a record whose bytes are coded or not, of which the rules gave a number.
-fn sooner(coded: bool, number: u8) -> u8 {
+fn sooner(coded: bool, number: u8) -> u8
+    ensures { λ r. ⌜ r ≡ sooner coded number ⌝ }
+{
     if coded {
         return number;
     }
@@ -39,14 +41,14 @@ fn sooner(coded: bool, number: u8) -> u8 {
 
 // A state from a record and the length of a book: refusals 1 to 4, and 9 where the state has another length.
 #[no_mangle]
-pub extern "C" fn mast_build(record: &[u8], book: usize, state: &mut [u8]) -> u8
-    ensures { λ r. ⌜ Building r (now (state .exit)) (now (record .entry)) book (now (state .entry)) ⌝ }
+pub extern "C" fn mast_build(profile: &[u8], book: usize, state: &mut [u8]) -> u8
+    ensures { λ r. ⌜ Building r (now (state .exit)) (now (profile .entry)) book (now (state .entry)) ⌝ }
 {
-    if record.len() != RECORD {
+    if profile.len() != RECORD {
         return Refusal::PacketSize.number();
     }
     let mut bytes = [0u8; RECORD];
-    common::put(record, 0, RECORD, &mut bytes, 0);
+    common::put(profile, 0, RECORD, &mut bytes, 0);
     let built = Device::build(record_bytes::read(&bytes), book);
     let why = built.refusal;
     let number = sooner(record_bytes::fine(&bytes), why.number());

@@ -2,7 +2,7 @@
 -- written. Assumes nothing.
 use Prim.Native.Nat.{ℕ, _+_, _≤_}
 use mathlib.Core.Bool.{Bool, true, false, cond, _&&_}
-use mathlib.Core.Path.{_≡_, refl, sym, ap, ap₂, _∙_}
+use mathlib.Core.Path.{_≡_, refl, ap, ap₂, _∙_}
 use mathlib.Core.List.{List, _++_}
 use native.Mathlib.Omega.{arith}
 use borrow.Author.Tests.{eq-eqb, eqb-true}
@@ -15,11 +15,11 @@ use Rattle.common.proofs.Laws.{and-left, and-right}
 use Rattle.control_pipe.specs.Sizes.{bufferRoom}
 use Rattle.device.specs.declared.Device.{Device}
 use Rattle.device.specs.declared.Built.{Built}
-use Rattle.record_bytes.specs.Layout.{recordSize, recordBytes, recordOf, recordCoded}
+use Rattle.record_bytes.specs.Layout.{recordSize, recordBytes, recordCoded}
 use Rattle.record_bytes.proofs.Lengths.{record-length}
 use Rattle.record_bytes.proofs.Numbers.{Small, both}
 use Rattle.record_bytes.proofs.Inverse.{part-skip, part-here, length-of-part, small-take, small-drop, stitch, record-back, record-coded, record-forth}
-use Rattle.live_bytes.specs.Layout.{liveSize, liveBytes, liveOf, liveCoded}
+use Rattle.live_bytes.specs.Layout.{liveSize, liveBytes, liveCoded}
 use Rattle.live_bytes.proofs.Lengths.{live-length}
 use Rattle.live_bytes.proofs.Inverse.{live-back, live-coded, live-forth}
 use Rattle.state.specs.State.{Whole, bufferPlace, stateSize, bytesOf, deviceOf, stateCoded, blank, readOf}
