@@ -68,7 +68,7 @@ unfolding turnBy turned
 known-named (Refused why) d book s = ap numberOf (named why)
 known-named (Good h) d book s = cond-elim (λ (t : Turn). Named (t .number)) (eqb (refusedBy d book clean) 0) _ _ (λ e. refl) (λ e. step-named d book clean)
 
-runs-facts : (n : ℕ) (d : Device) (book events : List ℕ) → (runs n d book events .count ≤ n) × Named (runs n d book events .number)
+pub runs-facts : (n : ℕ) (d : Device) (book events : List ℕ) → (runs n d book events .count ≤ n) × Named (runs n d book events .number)
 unfolding runs
 runs-facts zero d book events = (omega arith, refl)
 runs-facts (suc n) d book events =
