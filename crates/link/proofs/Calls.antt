@@ -7,19 +7,15 @@ use mathlib.Core.List.{List, [], _++_}
 use native.Mathlib.Omega.{arith}
 use borrow.Author.Tests.{eq-eqb, ne-eqb, eqb-true}
 use lib.Dec.{eqb}
-use lib.ListN.{length, take, drop, length-append}
+use lib.ListN.{length, take, length-append}
 use Rattle.common.specs.Bytes.{part}
 use Rattle.common.specs.Refusals.{refusal}
 use Rattle.common.proofs.Laws.{cond-elim, placed-nil}
 use Rattle.control_pipe.specs.Sizes.{bufferRoom}
 use Rattle.device.specs.declared.Device.{Device}
-use Rattle.device.specs.declared.Stepped.{Stepped}
-use Rattle.device.specs.Device.{fresh, refusedBy, stepOf, dataRefused, handedOf, handedRoom, withPowered}
-use Rattle.records.specs.declared.Known.{Known}
-use Rattle.records.specs.declared.Known.the-variants.{Good, Refused}
-use Rattle.records.specs.Records.{knownOf}
+use Rattle.device.specs.Device.{fresh, dataRefused, handedOf, handedRoom, withPowered}
 use Rattle.records.specs.Sizes.{eventRoom}
-use Rattle.stream.specs.Stream.{Turn, Run, clean, turned, turnBy, turn, runs, turnsBy, runOf}
+use Rattle.stream.specs.Stream.{Run, turn, runs, turnsBy, runOf}
 use Rattle.plan.specs.Sizes.{interfaceRoom, endpointRoom}
 use Rattle.record.specs.Sizes.{languageRoom, stringRoom, textRoom}
 use Rattle.record_bytes.specs.Layout.{headSize, interfaceSize, endpointSize, wordSize, endpointPlace, languagePlace, lengthPlace, unitPlace, recordSize, recordBytes, interfaceOf, endpointOf, wordOf, recordOf, planOf}
@@ -33,7 +29,7 @@ use Rattle.live_bytes.proofs.Lengths.{live-length}
 use Rattle.state.specs.State.{Whole, bufferPlace, stateSize, bytesOf, deviceOf, stateCoded, readOf}
 use Rattle.state.proofs.Inverse.{state-forth, written-read}
 use Rattle.link.specs.Link.{answerOf, buildNumber, builtNumber, builtState, running, ranNumber, ranState, ranTrace, dataNumber, dataRoom, flagNumber, flagState}
-use Rattle.link.proofs.Laws.{coded-long, runs-facts, number-small}
+use Rattle.link.proofs.Laws.{coded-long, runs-facts, runs-profile, number-small}
 
 -- ---- an answer
 
@@ -88,23 +84,6 @@ run-unchanged s book events t m z = by-code (stateCoded s) refl
     by-code false e = (rw e, rw e)
 
 -- ---- the state that a call leaves
-
-turn-profile : (k : Known) (d : Device) (book s : List ℕ) → turnBy k d book s .device .profile ≡ d .profile
-unfolding turnBy turned stepOf
-turn-profile (Refused why) d book s = refl
-turn-profile (Good h) d book s =
-    cond-elim (λ (x : Turn). x .device .profile ≡ d .profile) (eqb (refusedBy d book clean) 0) _ _
-    (λ e. cond-elim (λ (x : Stepped). x .device .profile ≡ d .profile) (eqb (refusedBy d book clean) 0) _ _ (λ f. refl) (λ f. refl))
-    (λ e. refl)
-
--- no event changes the record
-pub runs-profile : (n : ℕ) (d : Device) (book events : List ℕ) → runs n d book events .device .profile ≡ d .profile
-unfolding runs
-runs-profile zero d book events = refl
-runs-profile (suc n) d book events =
-    let s = take eventRoom events in
-    let t = turn d book s in
-    cond-elim (λ (x : Run). x .device .profile ≡ d .profile) (eqb (t .number) 0) _ _ (λ e. runs-profile n (t .device) book (drop eventRoom events) ∙ turn-profile (knownOf s) d book s) (λ e. refl)
 
 -- a record that is read has lists of its type's lengths
 shaped : (s : List ℕ) → length s ≡ recordSize → Shaped (recordOf s)

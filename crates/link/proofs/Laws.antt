@@ -1,4 +1,10 @@
 -- Laws of the exported calls that the proofs cite. Assumes nothing.
+use Rattle.state.specs.State.{kept, Writing, stateSize, bytesOf, deviceOf, stateCoded, readOf, wroteOf, wrote}
+use Rattle.state.proofs.Inverse.{kept-written}
+use Rattle.record_bytes.proofs.Numbers.{Small}
+use Rattle.device.specs.declared.Stepped.{Stepped}
+use Rattle.device.specs.Device.{stepOf, Handing as Handled, fresh, buildRefusal, buildOf, refusedBy, unfitDevice, dataRefused, handedOf, handedRoom, withPowered, poweredOf}
+use Rattle.control_pipe.specs.Sizes.{bufferRoom}
 use Prim.Native.Nat.{ℕ, zero, suc, _+_, _*_, _/_, _^_, _≤_, _<_, min}
 use mathlib.Core.Bool.{Bool, true, false, not}
 use mathlib.Core.Path.{_≡_, refl, sym, ap, ap₂, _∙_}
@@ -13,12 +19,10 @@ use Rattle.common.specs.declared.Refusal.{Refusal}
 use Rattle.common.specs.declared.Refusal.the-variants.{None, PacketSize, Layout, Languages, BookLength, OtherBook, PacketRoom, NoData, DataRoom, BadState, BadEvent, BadSetup, AnswerRoom}
 use Rattle.common.proofs.Refusals.{Named, named}
 use Rattle.common.proofs.Laws.{cond-elim, and-left}
-use Rattle.control_pipe.specs.Sizes.{bufferRoom}
 use Rattle.record.specs.declared.Record.{Record}
 use Rattle.device.specs.declared.Device.{Device}
 use Rattle.device.specs.declared.Built.{Built}
 use Rattle.device.specs.declared.Handed.{Handed}
-use Rattle.device.specs.Device.{Handing as Handled, fresh, buildRefusal, buildOf, refusedBy, unfitDevice, dataRefused, handedOf, handedRoom, withPowered, poweredOf}
 use Rattle.device.proofs.Laws.{build-named, fit-named, step-named, awaited-fits, data-fit}
 use Rattle.records.specs.declared.Known.{Known}
 use Rattle.records.specs.declared.Known.the-variants.{Good, Refused}
@@ -28,7 +32,6 @@ use Rattle.stream.specs.declared.Ran.{Ran}
 use Rattle.stream.specs.Trace.{entryRoom}
 use Rattle.stream.specs.Stream.{Running as Ranning, Turn, Run, clean, turned, turnBy, turn, runs, turnsBy, runOf, ranOf}
 use Rattle.record_bytes.specs.Layout.{recordSize, recordOf, recordCoded}
-use Rattle.state.specs.State.{Writing, stateSize, bytesOf, deviceOf, stateCoded, readOf, wroteOf, wrote}
 use Rattle.link.specs.Link.{Building, Running, Handing, Setting, answerOf, sooner, buildNumber, builtNumber, builtState, running, ranNumber, ranState, ranTrace, dataNumber, dataRoom, flagNumber, flagState}
 
 -- ---- a state that is read
@@ -76,6 +79,23 @@ runs-facts (suc n) d book events =
     let r = runs-facts n (t .device) book (drop eventRoom events) in
     cond-elim (λ (x : Run). (x .count ≤ suc n) × Named (x .number)) (eqb (t .number) 0) _ _ (λ e. (omega (arith, r .0), r .1)) (λ e. (omega arith, known-named (knownOf (take eventRoom events)) d book (take eventRoom events)))
 
+turn-profile : (k : Known) (d : Device) (book s : List ℕ) → turnBy k d book s .device .profile ≡ d .profile
+unfolding turnBy turned stepOf
+turn-profile (Refused why) d book s = refl
+turn-profile (Good h) d book s =
+    cond-elim (λ (x : Turn). x .device .profile ≡ d .profile) (eqb (refusedBy d book clean) 0) _ _
+    (λ e. cond-elim (λ (x : Stepped). x .device .profile ≡ d .profile) (eqb (refusedBy d book clean) 0) _ _ (λ f. refl) (λ f. refl))
+    (λ e. refl)
+
+-- no event changes the record
+pub runs-profile : (n : ℕ) (d : Device) (book events : List ℕ) → runs n d book events .device .profile ≡ d .profile
+unfolding runs
+runs-profile zero d book events = refl
+runs-profile (suc n) d book events =
+    let s = take eventRoom events in
+    let t = turn d book s in
+    cond-elim (λ (x : Run). x .device .profile ≡ d .profile) (eqb (t .number) 0) _ _ (λ e. runs-profile n (t .device) book (drop eventRoom events) ∙ turn-profile (knownOf s) d book s) (λ e. refl)
+
 -- the count of a run fits an answer
 pub count-fits : (d : Device) (book events trace : List ℕ) {x : Ran} → x ≡ ranOf (runOf d book events trace) → length trace < 2 ^ 64 → 16 * x .count + 256 ≤ 2 ^ 64
 unfolding runOf turnsBy
@@ -92,16 +112,17 @@ pub run-bad : (s book events t : List ℕ) {r : ℕ} → stateCoded s ≡ false 
 unfolding ranNumber ranState ranTrace
 run-bad s book events t c e = record { value = e ∙ rw c; state = rw c; trace = rw c }
 
-pub run-good : (s book events t : List ℕ) {d : Device} {x : Ran} {why : Refusal} {r : ℕ} {s₁ t₁ : List ℕ} → stateCoded s ≡ true → d ≡ deviceOf s → Ranning x t₁ (runOf d book events t) t
-    → Writing why s₁ (x .device) s → r ≡ answerOf (x .count) (numberOf (x .refusal)) → Running r s₁ t₁ s book events t
+pub run-good : (s book events t : List ℕ) {d : Device} {x : Ran} {r : ℕ} {s₁ t₁ : List ℕ} → stateCoded s ≡ true → d ≡ deviceOf s → Ranning x t₁ (runOf d book events t) t
+    → s₁ ≡ kept (x .device .live) (x .device .buffer) s → length (x .device .buffer) ≡ bufferRoom → Small s → r ≡ answerOf (x .count) (numberOf (x .refusal)) → Running r s₁ t₁ s book events t
 unfolding ranNumber ranState ranTrace runOf
-run-good s book events t {d} {x} {why} {r} c e q w a =
+run-good s book events t {d} {x} {r} c e q w b h a =
     let y = running s book events t in
     let z : x ≡ ranOf y = q .value ∙ ap (λ (u : Device). ranOf (runOf u book events t)) e in
     let m : numberOf (refusal (y .number)) ≡ y .number = runs-facts (turnsBy (length events) (length t)) (deviceOf s) book events .1 in
+    let p : x .device .profile ≡ deviceOf s .profile = ap (λ (u : Ran). u .device .profile) z ∙ runs-profile (turnsBy (length events) (length t)) (deviceOf s) book events in
     record {
       value = a ∙ ap (λ (u : Ran). answerOf (u .count) (numberOf (u .refusal))) z ∙ ap (answerOf (y .count)) m ∙ rw c;
-      state = written (x .device) s (coded-long s c) w .0 ∙ ap (λ (u : Ran). bytesOf (u .device)) z ∙ rw c;
+      state = w ∙ kept-written (x .device) s h c p b ∙ ap (λ (u : Ran). bytesOf (u .device)) z ∙ rw c;
       trace = q .trace ∙ ap (λ (u : Device). placed t 0 (runOf u book events t .bytes)) e ∙ rw c;
     }
 
@@ -149,13 +170,13 @@ module _ (s : List ℕ) (on : Bool) {d : Device} {x : Built} {n : ℕ} (c : stat
       let m = k ∙ sym g ∙ number in
       record { value = m ∙ rw c; state = rw (c, ne-eqb (unfitDevice (deviceOf s)) 0 (λ y. z (number ∙ y))) }
 
-  pub flag-set : {why : Refusal} {r : ℕ} {s₁ : List ℕ} → n ≡ 0 → Writing why s₁ (x .device) s → r ≡ numberOf why → Setting r s₁ s on
+  pub flag-set : {r : ℕ} {s₁ : List ℕ} → n ≡ 0 → s₁ ≡ kept (x .device .live) (x .device .buffer) s → length (x .device .buffer) ≡ bufferRoom → Small s → r ≡ 0 → Setting r s₁ s on
   unfolding flagNumber flagState poweredOf
-  flag-set z w k =
-      let q = written (x .device) s (coded-long s c) w in
+  flag-set z w b h k =
       let u : unfitDevice (deviceOf s) ≡ 0 = sym number ∙ z in
-      let d′ : x .device ≡ withPowered on (deviceOf s) = ap (λ (y : Built). y .device) here ∙ rw u in
-      record { value = k ∙ q .1 ∙ rw (c, u); state = q .0 ∙ ap bytesOf d′ ∙ rw (c, u) }
+      let y : x .device ≡ withPowered on (deviceOf s) = ap (λ (v : Built). v .device) here ∙ rw u in
+      let p : x .device .profile ≡ deviceOf s .profile = ap (λ (v : Device). v .profile) y in
+      record { value = k ∙ rw (c, u); state = w ∙ kept-written (x .device) s h c p b ∙ ap bytesOf y ∙ rw (c, u) }
 
 -- ---- building
 

@@ -71,8 +71,9 @@ pub extern "C" fn mast_run(state: &mut [u8], book: &[u8], events: &[u8], trace: 
     }
     let device = held.device;
     let ran = stream::run(device, book, events, trace);
-    let next = ran.device;
-    state::write(next, state);
+    let live = ran.device.live;
+    let buffer = ran.device.buffer;
+    state::keep(live, buffer, state);
     let stop = ran.refusal;
     answer(ran.count, stop)
 }
@@ -109,6 +110,8 @@ pub extern "C" fn mast_set_self_powered(state: &mut [u8], on: bool) -> u8
     if refusal.number() != 0 {
         return refusal.number();
     }
-    let next = set.device;
-    state::write(next, state).number()
+    let live = set.device.live;
+    let buffer = set.device.buffer;
+    state::keep(live, buffer, state);
+    0
 }

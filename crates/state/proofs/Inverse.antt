@@ -2,14 +2,14 @@
 -- written. Assumes nothing.
 use Prim.Native.Nat.{ℕ, _+_, _≤_}
 use mathlib.Core.Bool.{Bool, true, false, cond, _&&_}
-use mathlib.Core.Path.{_≡_, refl, ap, ap₂, _∙_}
-use mathlib.Core.List.{List, _++_}
+use mathlib.Core.Path.{_≡_, refl, sym, ap, ap₂, _∙_}
+use mathlib.Core.List.{List, _++_, append-nil}
 use native.Mathlib.Omega.{arith}
 use borrow.Author.Tests.{eq-eqb, eqb-true}
 use lib.Dec.{eqb}
-use lib.ListN.{length, drop, length-append, length-drop}
+use lib.ListN.{length, drop, length-append, length-drop, drop-of-length-le}
 use lib.Seq.{take-all}
-use Rattle.common.specs.Bytes.{part}
+use Rattle.common.specs.Bytes.{part, placed}
 use Rattle.common.specs.Refusals.{refusal, numberOf}
 use Rattle.common.proofs.Laws.{and-left, and-right}
 use Rattle.control_pipe.specs.Sizes.{bufferRoom}
@@ -22,7 +22,7 @@ use Rattle.record_bytes.proofs.Inverse.{part-skip, part-here, length-of-part, s
 use Rattle.live_bytes.specs.Layout.{liveSize, liveBytes, liveCoded}
 use Rattle.live_bytes.proofs.Lengths.{live-length}
 use Rattle.live_bytes.proofs.Inverse.{live-back, live-coded, live-forth}
-use Rattle.state.specs.State.{Whole, bufferPlace, stateSize, bytesOf, deviceOf, stateCoded, blank, readOf}
+use Rattle.state.specs.State.{Whole, bufferPlace, stateSize, bytesOf, deviceOf, stateCoded, blank, readOf, kept}
 
 module _ (d : Device) (w : Whole d) where
   abbrev R : List ℕ
@@ -88,3 +88,18 @@ read-written s m = by-code (stateCoded s) refl
         → bytesOf (cond {A = Built} b (record { device = deviceOf s; refusal = refusal 0 }) (record { device = blank; refusal = refusal 9 }) .device) ≡ s
     by-code true e z = state-forth s m e
     by-code false e z = absurd (let k : _≡_ {A = ℕ} 9 0 = z in omega (arith, k))
+
+-- a live part and a buffer kept in the state of a device's record are that device's state
+pub kept-written : (d : Device) (s : List ℕ) → Small s → stateCoded s ≡ true → d .profile ≡ deviceOf s .profile → length (d .buffer) ≡ bufferRoom → kept (d .live) (d .buffer) s ≡ bytesOf d
+unfolding kept bytesOf deviceOf stateCoded placed
+kept-written d s m e p b =
+    let x = recordCoded (part 0 recordSize s) in
+    let y = liveCoded (part recordSize liveSize s) in
+    let c = and-left (eqb (length s) stateSize && x) y e in
+    let f = and-left (eqb (length s) stateSize) x c in
+    let n : length s ≡ stateSize = eqb-true (length s) stateSize f in
+    let r : recordBytes (d .profile) ≡ part 0 recordSize s = ap recordBytes p ∙ record-forth (part 0 recordSize s) (length-of-part s 0 recordSize (omega (arith, n))) (small-take recordSize (drop 0 s) (small-drop 0 s m)) (and-right (eqb (length s) stateSize) x c) in
+    let t = liveBytes (d .live) ++ d .buffer in
+    let l : length t ≡ liveSize + bufferRoom = length-append (liveBytes (d .live)) (d .buffer) ∙ ap₂ (λ (u v : ℕ). u + v) (live-length (d .live)) b in
+    let k : length s ≤ recordSize + length t = omega (arith, n, l) in
+    rw (f, drop-of-length-le s k) (ap (λ (u : List ℕ). part 0 recordSize s ++ u) (append-nil t) ∙ ap (λ (u : List ℕ). u ++ t) (sym r))

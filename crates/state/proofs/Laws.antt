@@ -1,5 +1,5 @@
 -- Laws of a state that the proofs cite. Assumes nothing.
-use Prim.Native.Nat.{ℕ, _+_}
+use Prim.Native.Nat.{ℕ, _+_, _≤_}
 use mathlib.Core.Bool.{true, false}
 use mathlib.Core.Path.{_≡_, sym, ap, ap₂, _∙_}
 use mathlib.Core.List.{List, _++_}
@@ -9,17 +9,17 @@ use lib.ListN.{length, length-append}
 use Rattle.common.specs.Bytes.{part, placed, stored}
 use Rattle.common.specs.Refusals.{refusal}
 use Rattle.common.specs.declared.Refusal.the-variants.{None, BadState}
-use Rattle.common.proofs.Laws.{stored-whole, length-placed}
+use Rattle.common.proofs.Laws.{stored-whole, length-placed, placed-more}
 use Rattle.control_pipe.specs.Sizes.{bufferRoom}
 use Rattle.device.specs.declared.Device.{Device}
 use Rattle.device.specs.declared.Built.{Built}
 use Rattle.record.specs.declared.Record.{Record}
 use Rattle.live.specs.declared.Live.{Live}
 use Rattle.record_bytes.specs.Layout.{recordSize, recordBytes, recordOf, recordCoded}
-use Rattle.record_bytes.proofs.Walks.{three-placed, placed-over}
+use Rattle.record_bytes.proofs.Walks.{placed-over}
 use Rattle.live_bytes.specs.Layout.{liveSize, liveBytes, liveOf, liveCoded}
 use Rattle.live_bytes.proofs.Lengths.{live-length}
-use Rattle.state.specs.State.{Writing, bufferPlace, stateSize, bytesOf, deviceOf, stateCoded, blank, readOf, wroteOf, wrote}
+use Rattle.state.specs.State.{Writing, bufferPlace, stateSize, bytesOf, deviceOf, stateCoded, blank, readOf, wroteOf, wrote, kept}
 
 module _ (s : List ℕ) where
   abbrev R : List ℕ
@@ -58,19 +58,33 @@ pub wrote-none : (d : Device) (s : List ℕ) → (length s ≡ stateSize → ⊥
 unfolding wroteOf wrote
 wrote-none d s h = record { value = rw (ne-eqb (length s) stateSize h); state = rw (ne-eqb (length s) stateSize h) }
 
-pub wrote-all : (d : Device) (s : List ℕ) {s₁ s₂ s₃ r l : List ℕ} → length s ≡ stateSize → r ≡ recordBytes (d .profile) → length r ≡ recordSize → l ≡ liveBytes (d .live) → length (d .buffer) ≡ bufferRoom
-    → s₁ ≡ stored s 0 r 0 recordSize → s₂ ≡ stored s₁ recordSize l 0 liveSize → s₃ ≡ stored s₂ bufferPlace (d .buffer) 0 bufferRoom → Writing None s₃ d s
-unfolding wroteOf wrote bytesOf
-wrote-all d s {s₁} {s₂} {s₃} {r} {l} n e a f b g h i =
-    let m : length l ≡ liveSize = ap length f ∙ live-length (d .live) in
+pub wrote-all : (d : Device) (s : List ℕ) {s₁ s₂ r : List ℕ} → length s ≡ stateSize → r ≡ recordBytes (d .profile) → length r ≡ recordSize → s₁ ≡ stored s 0 r 0 recordSize
+    → s₂ ≡ kept (d .live) (d .buffer) s₁ → length (d .buffer) ≡ bufferRoom → Writing None s₂ d s
+unfolding wroteOf wrote bytesOf kept
+wrote-all d s {s₁} {s₂} {r} n e a g h b =
+    let t = liveBytes (d .live) ++ d .buffer in
+    let m : length t ≡ liveSize + bufferRoom = length-append (liveBytes (d .live)) (d .buffer) ∙ ap₂ (λ (u v : ℕ). u + v) (live-length (d .live)) b in
     let x : s₁ ≡ placed s 0 r = g ∙ stored-whole s r 0 recordSize (sym a) (omega (arith, n)) in
     let p : length s₁ ≡ stateSize = ap length x ∙ length-placed s r 0 (omega (arith, a, n)) ∙ n in
-    let y : s₂ ≡ placed s₁ recordSize l = h ∙ stored-whole s₁ l recordSize liveSize (sym m) (omega (arith, p)) in
-    let q : length s₂ ≡ stateSize = ap length y ∙ length-placed s₁ l recordSize (omega (arith, m, p)) ∙ p in
-    let z : s₃ ≡ placed s₂ bufferPlace (d .buffer) = i ∙ stored-whole s₂ (d .buffer) bufferPlace bufferRoom (sym b) (omega (arith, q)) in
-    let w = three-placed s r l (d .buffer) 0 recordSize bufferPlace x y z (omega (arith, a)) (omega (arith, m)) (omega (arith, b, n)) in
-    let k : length s ≡ length (r ++ (l ++ d .buffer)) = n ∙ sym (length-append r (l ++ d .buffer) ∙ ap₂ (λ (u v : ℕ). u + v) a (length-append l (d .buffer) ∙ ap₂ (λ (u v : ℕ). u + v) m b)) in
-    record {
-      value = rw (eq-eqb (length s) stateSize n);
-      state = rw (eq-eqb (length s) stateSize n) (w ∙ placed-over s (r ++ (l ++ d .buffer)) k ∙ ap₂ (λ (u v : List ℕ). u ++ (v ++ d .buffer)) e f);
-    }
+    let y : s₂ ≡ placed s₁ recordSize t = h ∙ rw (eq-eqb (length s₁) stateSize p) in
+    let o : recordSize ≡ 0 + length r = omega (arith, a) in
+    let k : length s ≡ length (r ++ t) = n ∙ sym (length-append r t ∙ ap₂ (λ (u v : ℕ). u + v) a m) in
+    let l : 0 + length r + length t ≤ length s = omega (arith, a, m, n) in
+    let w : s₂ ≡ r ++ t = y ∙ ap₂ (λ (u : List ℕ) (v : ℕ). placed u v t) x o ∙ placed-more s r t 0 l ∙ placed-over s (r ++ t) k in
+    record { value = rw (eq-eqb (length s) stateSize n); state = rw (eq-eqb (length s) stateSize n) (w ∙ ap (λ (u : List ℕ). u ++ t) e) }
+
+-- a live part and a buffer kept
+pub kept-none : (l : Live) (b s : List ℕ) → (length s ≡ stateSize → ⊥) → s ≡ kept l b s
+unfolding kept
+kept-none l b s h = rw (ne-eqb (length s) stateSize h)
+
+pub kept-all : (live : Live) (b s : List ℕ) {s₁ s₂ l : List ℕ} → length s ≡ stateSize → l ≡ liveBytes live → length b ≡ bufferRoom → s₁ ≡ stored s recordSize l 0 liveSize → s₂ ≡ stored s₁ bufferPlace b 0 bufferRoom → s₂ ≡ kept live b s
+unfolding kept
+kept-all live b s {s₁} {s₂} {l} n f e g h =
+    let m : length l ≡ liveSize = ap length f ∙ live-length live in
+    let y : s₁ ≡ placed s recordSize l = g ∙ stored-whole s l recordSize liveSize (sym m) (omega (arith, n)) in
+    let q : length s₁ ≡ stateSize = ap length y ∙ length-placed s l recordSize (omega (arith, m, n)) ∙ n in
+    let z : s₂ ≡ placed s₁ bufferPlace b = h ∙ stored-whole s₁ b bufferPlace bufferRoom (sym e) (omega (arith, q)) in
+    let p : bufferPlace ≡ recordSize + length l = omega (arith, m) in
+    rw (eq-eqb (length s) stateSize n)
+    (z ∙ ap₂ (λ (u : List ℕ) (v : ℕ). placed u v b) y p ∙ placed-more s l b recordSize (omega (arith, m, e, n)) ∙ ap (λ (u : List ℕ). placed s recordSize (u ++ b)) f)

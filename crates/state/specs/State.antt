@@ -5,10 +5,11 @@ use mathlib.Core.List.{List, _++_}
 use mathlib.Core.Path.{_≡_}
 use lib.Dec.{eqb}
 use lib.ListN.{length, replicate}
-use Rattle.common.specs.Bytes.{part}
+use Rattle.common.specs.Bytes.{part, placed}
 use Rattle.common.specs.Refusals.{refusal}
 use Rattle.common.specs.declared.Refusal.{Refusal}
 use Rattle.control_pipe.specs.Sizes.{bufferRoom}
+use Rattle.live.specs.declared.Live.{Live}
 use Rattle.device.specs.declared.Device.{Device}
 use Rattle.device.specs.declared.Built.{Built}
 use Rattle.record_bytes.specs.Layout.{recordSize, recordBytes, recordOf, recordCoded}
@@ -50,6 +51,10 @@ wrote d s = cond (eqb (length s) stateSize) (bytesOf d) s
 pub record Writing (r : Refusal) (exit : List ℕ) (d : Device) (entry : List ℕ) : Type 0 where
   pub value : r ≡ refusal (wroteOf entry)
   pub state : exit ≡ wrote d entry
+
+-- another live part and buffer behind the record that stands there
+unfoldable pub kept : Live → List ℕ → List ℕ → List ℕ
+kept l b s = cond (eqb (length s) stateSize) (placed s recordSize (liveBytes l ++ b)) s
 
 -- a device whose lists have the lengths of its type, which every device that the code makes has
 pub record Whole (d : Device) : Type 0 where

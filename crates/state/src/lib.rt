@@ -3,12 +3,14 @@ use common::Refusal;
 use control_pipe::BUFFER;
 use device::Built;
 use device::Device;
+use live::Live;
 use live_bytes::LIVE;
 use record_bytes::RECORD;
 ghost use mathlib.Core.Path.{_≡_};
 ghost use lib.ListN.{length};
 ghost use Rattle.common.specs.Refusals.{refusal};
-ghost use Rattle.state.specs.State.{Writing, blank, readOf};
+ghost use Rattle.control_pipe.specs.Sizes.{bufferRoom};
+ghost use Rattle.state.specs.State.{Writing, blank, readOf, kept};
 
 // Where the buffer starts.
 const BUFFER_PLACE: usize = RECORD + LIVE;
@@ -61,6 +63,18 @@ pub fn read(s: &[u8]) -> Built
     }
 }
 
+// The live part and the buffer of a device, in the state that holds its record. A room of another length is left as it was.
+pub fn keep(live: Live, buffer: [u8; BUFFER], s: &mut [u8])
+    ensures { λ r. ⌜ (now (s .exit) ≡ kept live buffer (now (s .entry))) × (length buffer ≡ bufferRoom) ⌝ }
+{
+    if s.len() != STATE {
+        return;
+    }
+    let l = live_bytes::write(live);
+    common::put(&l, 0, LIVE, s, RECORD);
+    common::put(&buffer, 0, BUFFER, s, BUFFER_PLACE);
+}
+
 // The state of a device. A room of another length is refusal 9, and is left as it was.
 pub fn write(d: Device, s: &mut [u8]) -> Refusal
     ensures { λ r. ⌜ Writing r (now (s .exit)) d (now (s .entry)) ⌝ }
@@ -72,9 +86,7 @@ pub fn write(d: Device, s: &mut [u8]) -> Refusal
     let live = d.live;
     let buffer = d.buffer;
     let r = record_bytes::write(profile);
-    let l = live_bytes::write(live);
     common::put(&r, 0, RECORD, s, 0);
-    common::put(&l, 0, LIVE, s, RECORD);
-    common::put(&buffer, 0, BUFFER, s, BUFFER_PLACE);
+    keep(live, buffer, s);
     Refusal::None
 }

@@ -1,5 +1,6 @@
 use Rattle.link.proofs.Laws.{read-bad, read-good, run-bad, count-fits, run-good}
 use Prim.Native.Nat.{_^_, _-_, _<_}
+use Rattle.record_bytes.proofs.Numbers.{Small}
 use Rattle.link.specs.Link.{answerOf}
 use lib.ListN.{length}
 use denote.Ref.{now}
@@ -20,16 +21,17 @@ returns c =
 
 answer-requires-2 : tie.Need-answer-requires-2
 answer-requires-2 c κs =
-    let a = c .before .before .before .before .before .before .before .before .before .before .before .before .before .before .before .before .before .before .args in
-    let l : length (now (a .trace)) < 2 ^ 64 = long (c .before .before .before .before .before .before .before .before .before .before .before .before .before .before .before .before .before .before) in
-    count-fits _ (now (a .book)) (now (a .events)) (now (a .trace)) (c .before .before .before .before .before .before .before .run .ensures .value) l
+    let a = c .before .before .before .before .before .before .before .before .before .before .before .before .before .before .before .before .before .before .before .args in
+    count-fits _ (now (a .book)) (now (a .events)) (now (a .trace)) (c .before .before .before .before .before .before .before .before .run .ensures .value) (long (c .before .before .before .before .before .before .before .before .before .before .before .before .before .before .before .before .before .before .before))
 
 returns-2 : tie.Need-returns-2
 returns-2 c =
-    let a = c .before .before .before .before .before .before .before .before .before .before .before .before .before .before .before .before .before .before .before .args in
+    let a = c .before .before .before .before .before .before .before .before .before .before .before .before .before .before .before .before .before .before .before .before .args in
     let s = now (a .state) in
-    let g = read-good s (c .before .before .before .before .before .before .before .before .before .before .before .before .before .read .ensures) (c .before .before .before .before .before .before .before .before .before .before .before .before .number .ensures) (c .before .before .before .before .before .before .before .before .before .before .before .if1 .left) in
-    run-good s (now (a .book)) (now (a .events)) (now (a .trace)) (g .0) (g .1) (c .before .before .before .before .before .before .before .before .run .ensures) (c .before .before .before .write .ensures) (c .answer2 .ensures)
+    let g = read-good s (c .before .before .before .before .before .before .before .before .before .before .before .before .before .before .read .ensures) (c .before .before .before .before .before .before .before .before .before .before .before .before .before .number .ensures) (c .before .before .before .before .before .before .before .before .before .before .before .before .if1 .left) in
+    let m : Small s = λ i. c .before .before .before .before .before .before .before .before .before .before .before .before .before .before .before .before .before .before .before .slice-known .given i .fits in
+    let k = c .before .before .before .keep .ensures in
+    run-good s (now (a .book)) (now (a .events)) (now (a .trace)) (g .0) (g .1) (c .before .before .before .before .before .before .before .before .before .run .ensures) (k .0) (k .1) m (c .answer2 .ensures)
 
 pub mast-run-spec : {M : Type 1} → statement M
 mast-run-spec =

@@ -1,6 +1,7 @@
 use Rattle.link.proofs.Laws.{read-bad, read-good, flag-bad, flag-refused, flag-set}
+use Rattle.record_bytes.proofs.Numbers.{Small}
 use denote.Ref.{now}
-use mathlib.Core.Path.{_∙_}
+use mathlib.Core.Path.{refl, _∙_}
 use Prim.Native.Nat.{_-_}
 use borrow.Author.Needs.{needs}
 use Rattle.link.proofs.mast_set_self_powered.Statement.{statement}
@@ -22,7 +23,9 @@ returns-3 : tie.Need-returns-3
 returns-3 c =
     let s = now (c .before .before .before .before .before .before .before .before .before .before .before .before .before .before .before .args .state) in
     let g = read-good s (c .before .before .before .before .before .before .before .before .before .before .before .before .read .ensures) (c .before .before .before .before .before .before .before .before .before .before .before .number .ensures) (c .before .before .before .before .before .before .before .before .before .before .if1 .left) in
-    flag-set s (c .before .before .before .before .before .before .before .before .before .before .before .before .before .before .before .args .on) (g .0) (g .1) (c .before .before .before .before .before .before .before .before .set-self-powered .ensures) (c .before .before .before .before .before .before .before .number3 .ensures) (c .before .before .before .before .before .before .if2 .left) (c .before .before .before .write .ensures) (c .number5 .ensures)
+    let m : Small s = λ i. c .before .before .before .before .before .before .before .before .before .before .before .before .before .before .slice-known .given i .fits in
+    let k = c .before .before .keep .ensures in
+    flag-set s (c .before .before .before .before .before .before .before .before .before .before .before .before .before .before .before .args .on) (g .0) (g .1) (c .before .before .before .before .before .before .before .before .set-self-powered .ensures) (c .before .before .before .before .before .before .before .number3 .ensures) (c .before .before .before .before .before .before .if2 .left) (k .0) (k .1) m refl
 
 pub mast-set-self-powered-spec : {M : Type 1} → statement M
 mast-set-self-powered-spec =
@@ -38,7 +41,6 @@ mast-set-self-powered-spec =
     (λ c κs. search needs)
     (λ c. search needs)
     returns-2
-    (λ c κs. search needs)
     (λ c κs. search needs)
     (λ c. search needs)
     returns-3)

@@ -7,17 +7,15 @@ use borrow.Author.Needs.{needs}
 use Rattle.state.proofs.write.Statement.{statement}
 use Rattle.state.proofs.write.Tie as tie
 
-held : (c : tie.Start) → length (c .args .d .buffer) ≡ 128
-held c = search needs
-
 returns : tie.Need-returns
 returns c = wrote-none (c .before .before .args .d) (now (c .before .before .args .s)) (c .if1 .taken)
 
 returns-2 : tie.Need-returns-2
 returns-2 c =
-    let a = c .before .before .before .before .before .before .before .before .before .before .before .before .before .before .before .before .before .before .before .before .before .before .args in
-    let r : length (c .before .before .before .before .before .before .before .before .before .before .before .before .before .before .before .before .write .result) ≡ 833 = search needs in
-    wrote-all (a .d) (now (a .s)) (c .before .before .before .before .before .before .before .before .before .before .before .before .before .before .before .before .before .before .before .before .if1 .left) (c .before .before .before .before .before .before .before .before .before .before .before .before .before .before .before .before .write .ensures) r (c .before .before .before .before .before .before .before .before .before .before .before .before .before .before .before .write2 .ensures) (held (c .before .before .before .before .before .before .before .before .before .before .before .before .before .before .before .before .before .before .before .before .before .before)) (c .before .before .before .before .before .before .before .before .before .before .before .before .put .ensures) (c .before .before .before .before .before .before .before .put2 .ensures) (c .before .before .put3 .ensures)
+    let a = c .before .before .before .before .before .before .before .before .before .before .before .before .before .before .before .args in
+    let r : length (c .before .before .before .before .before .before .before .before .before .write .result) ≡ 833 = search needs in
+    let k = c .before .before .keep .ensures in
+    wrote-all (a .d) (now (a .s)) (c .before .before .before .before .before .before .before .before .before .before .before .before .before .if1 .left) (c .before .before .before .before .before .before .before .before .before .write .ensures) r (c .before .before .before .before .before .before .put .ensures) (k .0) (k .1)
 
 pub write-spec : {M : Type 1} → statement M
 write-spec =
@@ -25,12 +23,8 @@ write-spec =
     (tie.spec
     returns
     (λ c κs. search needs)
-    (λ c κs. search needs)
     (λ c. search needs)
     (λ c κs. search needs)
-    (λ c. search needs)
-    (λ c κs. search needs)
-    (λ c. search needs)
     (λ c κs. search needs)
     (λ c. search needs)
     returns-2)
