@@ -26,7 +26,7 @@ pub extern "C" fn mast_size() -> usize
     STATE
 }
 
-// The number of a record whose bytes are coded or not, of which the rules gave a number.
+// A flag or a kind that is no code breaks rule 2: its number stands before what the rules gave of the rest, but for 1.
 fn sooner(coded: bool, number: u8) -> u8
     ensures { λ r. ⌜ r ≡ sooner coded number ⌝ }
 {
