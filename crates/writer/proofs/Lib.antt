@@ -1,0 +1,4 @@
+pub mod Ends
+pub mod Laws
+pub mod Lent
+pub mod Pinned
