@@ -9,14 +9,11 @@ use lib.ListN.{length, drop}
 use Rattle.common.specs.Bytes.{placed}
 use Rattle.common.specs.declared.Refusal.{Refusal}
 use Rattle.control.specs.declared.Request.{Request}
-use Rattle.plan.specs.declared.Plan.{Plan}
 use Rattle.record.specs.declared.Record.{Record}
 use Rattle.limits.specs.Limits.{lowest}
 use Rattle.descriptor.specs.declared.Written.{Written}
 use Rattle.descriptor.specs.declared.Written.the-variants.{Bytes as WroteBytes, Missing, Refused}
-use Rattle.descriptor.specs.Device.{deviceBytes}
-use Rattle.configuration.specs.Configuration.{configurationBytes}
-use Rattle.strings.specs.Strings.{stringOf}
+use Rattle.writer.specs.Descriptors.{descriptorOf}
 use Rattle.control_pipe.specs.declared.Pipe.{Pipe}
 use Rattle.requests.specs.declared.Kept.{Kept}
 use Rattle.requests.specs.declared.Effect.{Effect}
@@ -32,17 +29,6 @@ pub data Answer : Type 0 where
   tell : List ℕ → Answer
   tiles : ℕ → Answer
   accept : Effect → Answer
-
--- a record in its parts
-abbrev pub parts : Plan → List ℕ → List ℕ → List ℕ → Record
-parts plan ids lens units = record { plan = plan; ids = ids; lens = lens; units = units }
-
--- section 9.4.3, wValue: type 1 device, 2 configuration, 3 string; the index counts for strings alone, wIndex is their language
-unfoldable pub descriptorOf : Record → ℕ → ℕ → ℕ → Option (List ℕ)
-descriptorOf r kind index language =
-    cond (eqb kind 1) (some (deviceBytes (r .plan) (r .lens)))
-    (cond (eqb kind 2) (some (configurationBytes (r .plan)))
-    (cond (eqb kind 3) (stringOf (r .plan .languages) (r .ids) (r .lens) (r .units) index language) none))
 
 -- what is missing stalls
 abbrev pub told : Option (List ℕ) → Answer

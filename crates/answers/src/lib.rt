@@ -8,9 +8,11 @@ use record::STRINGS;
 use record::TEXT;
 use requests::Decision;
 use requests::Effect;
+use writer::Which;
 ghost use mathlib.Core.Path.{_≡_};
 ghost use mathlib.Core.List.{[], _∷_};
-ghost use Rattle.answers.specs.Answers.{Answered, tell, writtenAs, described, answerOf, parts};
+ghost use Rattle.writer.specs.Descriptors.{parts};
+ghost use Rattle.answers.specs.Answers.{Answered, tell, writtenAs, described, answerOf};
 
 // What the pipe is to do: stall, send so many bytes of the buffer or the book from a byte on, or accept.
 pub enum Verdict {
@@ -42,13 +44,12 @@ fn describe<'a>(
     ensures { λ r. ⌜ Answered r (now (buffer .exit)) (described (parts plan (now (ids .entry)) (now (lens .entry)) (now (units .entry))) request) (now (buffer .entry)) ⌝ }
 {
     let t = request.descriptor_type_index();
-    let kind = t.kind;
-    match kind {
-        1 => judged(descriptor::device(plan, ids, lens, buffer, 0)),
-        2 => judged(configuration::write(plan, ids, lens, buffer, 0)),
-        3 => judged(strings::write(plan, ids, lens, units, t.index, request.index, buffer, 0)),
-        _ => Verdict::Stall,
-    }
+    let which = Which {
+        kind: t.kind,
+        index: t.index,
+        language: request.index,
+    };
+    judged(writer::write(plan, ids, lens, units, which, buffer))
 }
 
 fn one(n: u8, buffer: &mut [u8; BUFFER]) -> Verdict

@@ -18,7 +18,8 @@ ghost use mathlib.Core.Bool.{not, _&&_};
 ghost use mathlib.Core.List.{[]};
 ghost use Rattle.control_pipe.specs.Stages.{Took};
 ghost use Rattle.live.specs.Live.{awake};
-ghost use Rattle.answers.specs.Answers.{Answered, answer, parts};
+ghost use Rattle.writer.specs.Descriptors.{parts};
+ghost use Rattle.answers.specs.Answers.{Answered, answer};
 ghost use Rattle.events.specs.Events.{Followed, Came, takenBy, arrived, followed, dataCome, plain, handledOf, remembering, suspended, stateAfter, woken, restarted, dull, happens, handled};
 
 // What the one write of an event will get.

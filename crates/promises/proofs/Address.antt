@@ -31,7 +31,8 @@ use Rattle.requests.specs.declared.Effect.the-variants.{Nothing as NoEffect, Wa
 use Rattle.requests.specs.declared.Decision.{Decision}
 use Rattle.requests.specs.declared.Decision.the-variants.{Stall, Status, Byte, Describe, Tiles, Accept}
 use Rattle.requests.specs.Requests.{decideOut, decideBy, decided}
-use Rattle.answers.specs.Answers.{Answer, stall, tell, tiles, accept, told, descriptorOf, described, answerOf, answer}
+use Rattle.writer.specs.Descriptors.{descriptorOf}
+use Rattle.answers.specs.Answers.{Answer, stall, tell, tiles, accept, told, described, answerOf, answer}
 use Rattle.live.specs.declared.Live.{Live}
 use Rattle.live.specs.Live.{awake}
 use Rattle.effects.specs.declared.Action.{Action}

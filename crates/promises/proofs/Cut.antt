@@ -36,7 +36,8 @@ use Rattle.control.specs.declared.EndpointAddress.{EndpointAddress}
 use Rattle.requests.specs.declared.Decision.{Decision}
 use Rattle.requests.specs.declared.Decision.the-variants.{Stall, Status, Byte, Describe, Tiles, Accept}
 use Rattle.requests.specs.Requests.{haltPlace, halted, decideIn, deconfigured, deviceOut, setAddress, setConfiguration, interfaceOut, endpointOut, standardOut, decideOut, decideBy, decided}
-use Rattle.answers.specs.Answers.{Answer, told, descriptorOf, described, answerOf, answer}
+use Rattle.writer.specs.Descriptors.{descriptorOf}
+use Rattle.answers.specs.Answers.{Answer, told, described, answerOf, answer}
 use Rattle.live.specs.declared.Live.{Live}
 use Rattle.live.specs.Live.{awake}
 use Rattle.effects.specs.Effects.{Second, withPipe, halting, awaiting, effected, setOut, ticked}

@@ -17,7 +17,8 @@ use Rattle.descriptor.specs.Device.{said, stringNumber, deviceBytes}
 use Rattle.control_pipe.specs.declared.Read.the-variants.{Packet}
 use Rattle.control_pipe.specs.Stages.{zeros, chunkBytes, beginBy, begun, setupCome, afterChunk, advanced, sendChunk}
 use Rattle.requests.specs.Requests.{deviceIn, standardIn, tilesFrom, tilesIn, vendorIn, decideIn, decideBy, decided}
-use Rattle.answers.specs.Answers.{Answer, stall, tell, tiles, accept, bufferOf, descriptorOf, described, answerOf, answer}
+use Rattle.writer.specs.Descriptors.{descriptorOf}
+use Rattle.answers.specs.Answers.{Answer, stall, tell, tiles, accept, bufferOf, described, answerOf, answer}
 use Rattle.live.specs.declared.Live.{Live}
 use Rattle.live.specs.Live.{bookFine, comingFine, replyFine, pipeFine, liveFine, unfit, stepRefusal}
 use Rattle.effects.specs.Effects.{setOut}

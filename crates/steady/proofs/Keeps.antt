@@ -39,7 +39,8 @@ use Rattle.requests.specs.declared.Decision.the-variants.{Stall as StallIt, Sta
 use Rattle.requests.specs.Requests.{decideBy, decided}
 use Rattle.answers.specs.declared.Verdict.{Verdict}
 use Rattle.answers.specs.declared.Verdict.the-variants.{Stall, Bytes, Tiles, Accept}
-use Rattle.answers.specs.Answers.{Answer, descriptorOf, told, described, answerOf, answer, verdictOf, bufferOf}
+use Rattle.writer.specs.Descriptors.{descriptorOf}
+use Rattle.answers.specs.Answers.{Answer, told, described, answerOf, answer, verdictOf, bufferOf}
 use Rattle.answers.proofs.Laws.{device-fits, configuration-fits, string-fits}
 use Rattle.live.specs.declared.Live.{Live}
 use Rattle.live.specs.Live.{bookFine, comingFine, sourceRoom, replyFine, pipeFine, awake, stateFine, liveFine}

@@ -20,7 +20,7 @@ ghost use mathlib.Core.Bool.{cond};
 ghost use Prim.Native.Nat.{_+_, _≤_, min};
 ghost use lib.ListN.{length};
 ghost use Rattle.common.specs.Bytes.{placed};
-ghost use Rattle.answers.specs.Answers.{parts};
+ghost use Rattle.writer.specs.Descriptors.{parts};
 ghost use Rattle.records.specs.Sizes.{eventRoom, packetRoom};
 ghost use Rattle.stream.specs.Trace.{entryRoom, topRoom, stateCode, actionCode, argumentOf, topBytes};
 ghost use Rattle.common.specs.Refusals.{refusal};

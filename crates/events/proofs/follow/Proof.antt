@@ -1,4 +1,5 @@
-use Rattle.answers.specs.Answers.{answer, parts}
+use Rattle.writer.specs.Descriptors.{parts}
+use Rattle.answers.specs.Answers.{answer}
 use Rattle.events.proofs.Laws.{answer-followed, tick-followed}
 use Rattle.events.specs.Events.{followed}
 use Rattle.common.proofs.Laws.{front-nil}

@@ -1,7 +1,7 @@
 use Rattle.stream.proofs.Laws.{turn-done}
 use Rattle.stream.specs.Stream.{deviceOf, clean, turned}
 use borrow.Author.Tests.{ne-eqb}
-use Rattle.answers.specs.Answers.{parts}
+use Rattle.writer.specs.Descriptors.{parts}
 use Rattle.common.proofs.Laws.{placed-nil}
 use Prim.Native.Nat.{_+_, _-_}
 use Rattle.device.proofs.Laws.{step-named}
