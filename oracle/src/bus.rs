@@ -20,7 +20,9 @@ pub struct Wire {
     pub pending: Cell<bool>,
     /// The bytes of a tile answer that no taken write sent; an empty one counts 1.
     pub tile: Cell<usize>,
-    pub data: UnsafeCell<Option<Vec<u8>>>,
+    data: UnsafeCell<[u8; 128]>,
+    held: Cell<Option<usize>>,
+    /// OUT data was completed in this step.
     pub fresh: Cell<bool>,
 }
 
@@ -38,7 +40,8 @@ impl Wire {
             named: Cell::new(false),
             pending: Cell::new(false),
             tile: Cell::new(0),
-            data: UnsafeCell::new(None),
+            data: UnsafeCell::new([0; 128]),
+            held: Cell::new(None),
             fresh: Cell::new(false),
         }
     }
@@ -80,13 +83,17 @@ impl Wire {
         self.entry()[place + endpoint / 8] |= 1 << (endpoint % 8);
     }
 
+    /// The OUT data of the last accepted SETUP, as the class got it.
     pub fn data(&self) -> Option<&[u8]> {
-        unsafe { (*self.data.get()).as_deref() }
+        let data = unsafe { &*self.data.get() };
+        self.held.get().map(|held| &data[..held])
     }
 
-    pub fn hold(&self, data: Option<Vec<u8>>) {
-        self.fresh.set(data.is_some());
-        unsafe { *self.data.get() = data }
+    pub fn hold(&self, data: &[u8]) {
+        let room = unsafe { &mut *self.data.get() };
+        room[..data.len()].copy_from_slice(data);
+        self.held.set(Some(data.len()));
+        self.fresh.set(true);
     }
 
     fn sent(&self, count: usize) {
@@ -100,7 +107,7 @@ impl Wire {
     }
 }
 
-fn halt_bit(address: u8) -> u32 {
+pub fn halt_bit(address: u8) -> u32 {
     1 << (address & 15 | (address & 0x80) >> 3)
 }
 
@@ -119,7 +126,7 @@ impl<const QUIRK: bool> UsbBus for Bus<'_, QUIRK> {
         self.0.tell(3, 0);
         self.0.halts.set(0);
         self.0.pending.set(false);
-        self.0.hold(None);
+        self.0.held.set(None);
     }
 
     fn set_device_address(&self, address: u8) {
@@ -155,7 +162,7 @@ impl<const QUIRK: bool> UsbBus for Bus<'_, QUIRK> {
         }
         room[..bytes.len()].copy_from_slice(bytes);
         if event[8] & 1 != 0 && bytes.len() == 8 {
-            self.0.hold(None);
+            self.0.held.set(None);
         }
         Ok(bytes.len())
     }

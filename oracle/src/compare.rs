@@ -6,7 +6,7 @@ use crate::host::Host;
 use crate::mutant::Mutant;
 use crate::record::{book, Record};
 use crate::rng::Rng;
-use crate::shrink::shorten;
+use crate::shrink::Shrink;
 use crate::tally::Tally;
 use crate::{exhaustive, limits};
 use std::process::ExitCode;
@@ -44,14 +44,15 @@ impl Watch {
 }
 
 fn tell(case: &Case, history: &[Event], mutant: Mutant) {
-    let events = shorten(case, history, mutant);
+    let shrink = Shrink::new(case, history, mutant);
+    let events = shrink.shorten(history);
     println!("a difference, after a stream of {} events; shortened:", history.len());
     println!("record: {}, book of {} records", case.record.told(), case.book.len() / 16);
     println!("{}", hex(&case.record.bytes()).trim_end_matches('0'));
     for (i, event) in events.iter().enumerate() {
         println!("{} {}", i + 1, told(event));
     }
-    match replay(case, &events, mutant, &mut Tally::default()) {
+    match replay(shrink.slices, case, &events, mutant) {
         Found::Differs(at, text) => println!("at event {at}:\n{text}"),
         found => println!("{found:?}"),
     }
@@ -102,10 +103,10 @@ pub fn main(events: u64, seed: u64) -> ExitCode {
     let number = std::env::var("ORACLE_MUTANT").ok().and_then(|word| word.parse().ok()).unwrap_or(0);
     let mut watch = Watch::new(Mutant(number));
     let found = all(events, seed, &mut watch);
-    watch.tally.print();
     if found.is_err() {
         return ExitCode::FAILURE;
     }
+    watch.tally.print();
     println!("seed {seed}, {} s: no difference", watch.start.elapsed().as_secs());
     ExitCode::SUCCESS
 }

@@ -52,7 +52,15 @@ pub enum Found {
 /// The longest slice that ours is given at once.
 const SLICE: usize = 64;
 
+/// How ours is lent the stream: in slices of every length, so that nothing can hide behind one, or event by event.
+#[derive(Clone, Copy, PartialEq)]
+pub enum Slices {
+    Varied,
+    Single,
+}
+
 struct Run<'a> {
+    slices: Slices,
     mutant: Mutant,
     ours: Ours,
     slice: Vec<Event>,
@@ -117,8 +125,9 @@ impl Run<'_> {
         self.tally.add(&self.slice, &self.expected);
         self.slice.clear();
         self.expected.clear();
-        // slices of every length, so that nothing can hide behind one
-        self.limit = 1 + (self.limit * 29 + 7) % SLICE;
+        if self.slices == Slices::Varied {
+            self.limit = 1 + (self.limit * 29 + 7) % SLICE;
+        }
         self.compare_kept(original)
     }
 
@@ -166,8 +175,7 @@ impl Run<'_> {
     }
 }
 
-/// Drives both through the source's events, which are put into the history.
-pub fn drive(case: &Case, source: &mut dyn Source, mutant: Mutant, tally: &mut Tally, history: &mut Vec<Event>) -> Found {
+fn drive_in(slices: Slices, case: &Case, source: &mut dyn Source, mutant: Mutant, tally: &mut Tally, history: &mut Vec<Event>) -> Found {
     let mut bytes = case.record.bytes();
     mutant.record(&mut bytes);
     let ours = match Ours::build(&bytes, case.book) {
@@ -175,12 +183,17 @@ pub fn drive(case: &Case, source: &mut dyn Source, mutant: Mutant, tally: &mut T
         Err(number) => return Found::Differs(0, format!("ours refuses the record with {number}")),
     };
     let (slice, expected) = (Vec::with_capacity(SLICE), Vec::with_capacity(SLICE));
-    let mut run = Run { mutant, ours, slice, expected, done: 0, limit: 1, tally };
+    let mut run = Run { slices, mutant, ours, slice, expected, done: 0, limit: 1, tally };
     run.tally.streams += 1;
     original::with(&case.record, case.book, &mut |original| run.stream(source, original, history).err().unwrap_or(Found::Equal))
 }
 
-/// The same for a list.
-pub fn replay(case: &Case, events: &[Event], mutant: Mutant, tally: &mut Tally) -> Found {
-    drive(case, &mut List::new(events), mutant, tally, &mut vec![])
+/// Drives both through the source's events, which are put into the history.
+pub fn drive(case: &Case, source: &mut dyn Source, mutant: Mutant, tally: &mut Tally, history: &mut Vec<Event>) -> Found {
+    drive_in(Slices::Varied, case, source, mutant, tally, history)
+}
+
+/// The same for a list, of which nothing is counted.
+pub fn replay(slices: Slices, case: &Case, events: &[Event], mutant: Mutant) -> Found {
+    drive_in(slices, case, &mut List::new(events), mutant, &mut Tally::default(), &mut vec![])
 }

@@ -99,6 +99,11 @@ impl Host {
                 self.phase = Phase::Rest;
                 Some(Data::out(&[]))
             }
+            // nothing came of the last event: it went astray, or nothing is to be had any more
+            Phase::In if seen.entry[ACTIONS] == 0 && self.mischief != 0 && self.rng.once_in(3) => {
+                self.phase = Phase::Rest;
+                Some(Data::out(&[]))
+            }
             Phase::In => Some(Data::done()),
             Phase::Out { left } => Some(self.out(left)),
             Phase::StatusIn => {

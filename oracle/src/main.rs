@@ -1,5 +1,6 @@
 //! The Rust crate usb-device 0.3.2 beside ours, on the same events.
 
+mod bench;
 mod bus;
 mod compare;
 mod domain;
@@ -11,6 +12,7 @@ mod limits;
 mod mutant;
 mod original;
 mod ours;
+mod outside;
 mod record;
 mod requests;
 mod rng;
@@ -26,8 +28,14 @@ fn main() -> ExitCode {
     std::panic::set_hook(Box::new(|_| ()));
     match (words.first().map(String::as_str), number(1, 10_000_000), number(2, 1)) {
         (Some("compare"), Some(events), Some(seed)) => compare::main(events, seed),
+        (Some("outside"), ..) => outside::main(),
+        (Some("bench"), ..) => bench::main(),
+        (Some("mutants"), ..) => {
+            mutant::NAMES.iter().for_each(|name| println!("{name}"));
+            ExitCode::SUCCESS
+        }
         _ => {
-            eprintln!("oracle: compare [EVENTS [SEED]]");
+            eprintln!("oracle: compare [EVENTS [SEED]] | outside | bench");
             ExitCode::from(2)
         }
     }

@@ -3,7 +3,7 @@
 use crate::bus::{Bus, Wire};
 use crate::event::{Entry, Event};
 use crate::ours::Kept;
-use crate::record::{Endpoint, Record};
+use crate::record::{Endpoint, Record, Texts};
 use usb_device::class_prelude::*;
 use usb_device::control::{Recipient, Request, RequestType};
 use usb_device::device::{StringDescriptors, UsbDevice, UsbDeviceBuilder, UsbRev, UsbVidPid};
@@ -20,10 +20,11 @@ struct Face<'a, B: UsbBus> {
     pipes: Vec<Pipe<'a, B>>,
 }
 
-struct Mast<'a, B: UsbBus> {
+pub struct Mast<'a, B: UsbBus> {
     faces: Vec<Face<'a, B>>,
     book: &'static [u8],
-    wire: &'a Wire,
+    /// Where what the class sees is noted, if anybody asks.
+    wire: Option<&'a Wire>,
 }
 
 fn pipe<'a, B: UsbBus>(alloc: &'a UsbBusAllocator<B>, end: &Endpoint) -> Pipe<'a, B> {
@@ -52,6 +53,12 @@ impl<B: UsbBus> Mast<'_, B> {
         let start = 16 * request.value as usize;
         (asked && request.index == 0 && start < self.book.len()).then(|| &self.book[start..])
     }
+
+    fn report(&self, place: usize, address: EndpointAddress) {
+        if let Some(wire) = self.wire {
+            wire.report(place, address.index());
+        }
+    }
 }
 
 impl<B: UsbBus> UsbClass<B> for Mast<'_, B> {
@@ -72,36 +79,38 @@ impl<B: UsbBus> UsbClass<B> for Mast<'_, B> {
     fn control_in(&mut self, xfer: ControlIn<B>) {
         if let Some(tiles) = self.tiles(xfer.request()) {
             // before the call, since the first packet is written in it
-            self.wire.tile.set(tiles.len().min(xfer.request().length as usize).max(1));
+            if let Some(wire) = self.wire {
+                wire.tile.set(tiles.len().min(xfer.request().length as usize).max(1));
+            }
             let _ = xfer.accept_with_static(tiles);
         }
     }
 
     fn control_out(&mut self, xfer: ControlOut<B>) {
-        let request = xfer.request();
+        let (Some(wire), request) = (self.wire, xfer.request()) else { return };
         if request.length > 0 {
-            self.wire.hold(Some(xfer.data().to_vec()));
+            wire.hold(xfer.data());
         }
         if request.request_type != RequestType::Standard {
             return;
         }
         match (request.recipient, request.request, request.value) {
-            (Recipient::Endpoint, Request::SET_FEATURE | Request::CLEAR_FEATURE, 0) => self.wire.named.set(true),
-            (Recipient::Device, Request::SET_ADDRESS, 1..=127) => self.wire.pending.set(!B::QUIRK_SET_ADDRESS_BEFORE_STATUS),
+            (Recipient::Endpoint, Request::SET_FEATURE | Request::CLEAR_FEATURE, 0) => wire.named.set(true),
+            (Recipient::Device, Request::SET_ADDRESS, 1..=127) => wire.pending.set(!B::QUIRK_SET_ADDRESS_BEFORE_STATUS),
             _ => {}
         }
     }
 
     fn endpoint_setup(&mut self, address: EndpointAddress) {
-        self.wire.report(2, address.index());
+        self.report(2, address);
     }
 
     fn endpoint_out(&mut self, address: EndpointAddress) {
-        self.wire.report(4, address.index());
+        self.report(4, address);
     }
 
     fn endpoint_in_complete(&mut self, address: EndpointAddress) {
-        self.wire.report(6, address.index());
+        self.report(6, address);
     }
 }
 
@@ -153,8 +162,6 @@ impl<B: UsbBus> Original for Live<'_, B> {
     }
 }
 
-type Texts = Vec<(u16, [Option<String>; 3])>;
-
 fn languages(texts: &Texts) -> Vec<StringDescriptors<'_>> {
     texts.iter().map(|(id, strings)| described(*id, strings)).collect()
 }
@@ -173,11 +180,10 @@ fn described(id: u16, strings: &[Option<String>; 3]) -> StringDescriptors<'_> {
     all
 }
 
-fn with_bus<const QUIRK: bool, R>(record: &Record, book: &'static [u8], texts: &Texts, f: &mut dyn FnMut(&mut dyn Original) -> R) -> R {
-    let wire = Wire::new();
-    let alloc = UsbBusAllocator::new(Bus::<QUIRK>(&wire));
-    let class = Mast { faces: faces(&alloc, record), book, wire: &wire };
-    let device = UsbDeviceBuilder::new(&alloc, UsbVidPid(record.vendor, record.product))
+/// A device of the Rust and its class, on any bus.
+pub fn built<'a, B: UsbBus>(alloc: &'a UsbBusAllocator<B>, record: &Record, texts: &'a Texts, book: &'static [u8], wire: Option<&'a Wire>) -> (UsbDevice<'a, B>, Mast<'a, B>) {
+    let class = Mast { faces: faces(alloc, record), book, wire };
+    let device = UsbDeviceBuilder::new(alloc, UsbVidPid(record.vendor, record.product))
         .device_class(record.codes[0])
         .device_sub_class(record.codes[1])
         .device_protocol(record.codes[2])
@@ -190,15 +196,21 @@ fn with_bus<const QUIRK: bool, R>(record: &Record, book: &'static [u8], texts: &
         .and_then(|builder| builder.strings(&languages(texts)))
         .expect("the record is inside the limits")
         .build();
+    (device, class)
+}
+
+fn with_bus<const QUIRK: bool, R>(record: &Record, book: &'static [u8], f: &mut dyn FnMut(&mut dyn Original) -> R) -> R {
+    let (wire, texts) = (Wire::new(), record.texts());
+    let alloc = UsbBusAllocator::new(Bus::<QUIRK>(&wire));
+    let (device, class) = built(&alloc, record, &texts, book, Some(&wire));
     f(&mut Live { device, class, wire: &wire })
 }
 
 /// Calls `f` with a device of the Rust that is built from the record; its strings have to be whole UTF-16.
 pub fn with<R>(record: &Record, book: &'static [u8], f: &mut dyn FnMut(&mut dyn Original) -> R) -> R {
-    let texts = record.texts();
     if record.quirk {
-        with_bus::<true, R>(record, book, &texts, f)
+        with_bus::<true, R>(record, book, f)
     } else {
-        with_bus::<false, R>(record, book, &texts, f)
+        with_bus::<false, R>(record, book, f)
     }
 }

@@ -12,6 +12,9 @@ pub struct Endpoint {
     pub interface: u8,
 }
 
+/// Each language's identifier and strings, as Rust's own text.
+pub type Texts = Vec<(u16, [Option<String>; 3])>;
+
 pub type Strings = [Option<Vec<u16>>; 3];
 
 #[derive(Clone, Debug)]
@@ -158,7 +161,7 @@ impl Record {
     }
 
     /// The strings as the Rust takes them. Broken UTF-16, which it cannot be given, becomes the replacement character.
-    pub fn texts(&self) -> Vec<(u16, [Option<String>; 3])> {
+    pub fn texts(&self) -> Texts {
         let text = |units: &Option<Vec<u16>>| units.as_ref().map(|units| String::from_utf16_lossy(units));
         self.languages.iter().map(|(id, [a, b, c])| (*id, [text(a), text(b), text(c)])).collect()
     }
