@@ -16,6 +16,7 @@ mod outside;
 mod record;
 mod requests;
 mod rng;
+mod sample;
 mod shrink;
 mod tally;
 
@@ -30,12 +31,13 @@ fn main() -> ExitCode {
         (Some("compare"), Some(events), Some(seed)) => compare::main(events, seed),
         (Some("outside"), ..) => outside::main(),
         (Some("bench"), ..) => bench::main(),
+        (Some("sample"), ..) => sample::main(),
         (Some("mutants"), ..) => {
             mutant::NAMES.iter().for_each(|name| println!("{name}"));
             ExitCode::SUCCESS
         }
         _ => {
-            eprintln!("oracle: compare [EVENTS [SEED]] | outside | bench");
+            eprintln!("oracle: compare [EVENTS [SEED]] | outside | bench | sample");
             ExitCode::from(2)
         }
     }
