@@ -6,7 +6,7 @@ use crate::ours::{LIVE, RECORD, STATE};
 #[derive(Clone, Copy, PartialEq)]
 pub struct Mutant(pub u8);
 
-pub const NAMES: [&str; 17] = [
+pub const NAMES: [&str; 20] = [
     "a tile read starts one record late",
     "OUT stays stalled when the last packet went out",
     "the state is Addressed when the address is only decided",
@@ -24,9 +24,13 @@ pub const NAMES: [&str; 17] = [
     "the quirk is turned round",
     "a string of 31 units lacks its last unit",
     "a fault is read as would-block",
+    "a resume is answered with yes",
+    "a byte too many is counted once 64 OUT bytes are held",
+    "the list of languages lacks its last",
 ];
 
 const STAGE: usize = LIVE;
+const HELD: usize = LIVE + 6;
 const SENT: usize = LIVE + 27;
 const WAKEUP: usize = LIVE + 32;
 const HALTS: usize = LIVE + 34;
@@ -36,6 +40,7 @@ const IDLE: u8 = 0;
 const DATA_IN: u8 = 1;
 const DATA_IN_ZLP: u8 = 2;
 const DATA_IN_LAST: u8 = 3;
+const DATA_OUT: u8 = 7;
 const STATUS_IN: u8 = 8;
 
 fn add(bytes: &mut [u8], number: u8) {
@@ -61,6 +66,7 @@ impl Mutant {
             2 if accepted(event).is_none() && entry[ACTIONS] == UNSTALL_OUT => entry[ACTIONS] = 0,
             3 if accepted(event).is_some_and(|setup| setup[..2] == [0, 5]) && has_action(entry, WRITE) && entry[0] == 0 => entry[0] = 1,
             11 if event[0] == DATA => entry[4] |= event[4] & 0xfe,
+            18 if event[0] == RESUME => entry[1] = 1,
             _ => {}
         }
     }
@@ -77,6 +83,7 @@ impl Mutant {
             (8, _) if last[0] == RESET => state[WAKEUP] = before[WAKEUP],
             (9, DATA_IN_ZLP) => state[STAGE] = DATA_IN_LAST,
             (10, _) => state[BEFORE] = 0,
+            (19, DATA_OUT) if state[HELD] == 64 => state[HELD] = 65,
             _ => {}
         }
     }
@@ -103,6 +110,7 @@ impl Mutant {
         match self.0 {
             14 => Self::endpoints(bytes),
             15 => bytes[13] ^= 1,
+            20 => bytes[16] = bytes[16].saturating_sub(1),
             16 => bytes[77..89].iter_mut().filter(|length| **length == 32).for_each(|length| *length = 31),
             _ => {}
         }

@@ -3,6 +3,30 @@
 use crate::drive::Case;
 use crate::rng::Rng;
 
+/// Recipient and value: remote wakeup, an endpoint's halt, and what is neither.
+const FEATURES: [(u8, u16); 20] = [
+    (0, 1),
+    (0, 1),
+    (0, 1),
+    (0, 1),
+    (0, 1),
+    (2, 0),
+    (2, 0),
+    (2, 0),
+    (2, 0),
+    (2, 0),
+    (2, 0),
+    (2, 0),
+    (1, 0),
+    (0, 0),
+    (2, 1),
+    (0, 2),
+    (0, 257),
+    (2, 256),
+    (3, 0),
+    (31, 1),
+];
+
 pub struct Requests {
     pub packet: usize,
     tiles: u16,
@@ -38,7 +62,7 @@ impl Requests {
     fn out_length(&self, rng: &mut Rng) -> u16 {
         let any = rng.below(129) as u16;
         let size = self.packet as u16;
-        rng.pick(&[0, 0, 0, 0, 0, 0, 1, any, size, size - 1, size + 1, 127, 128])
+        rng.pick(&[0, 0, 0, 0, 0, 0, 0, 0, 0, 0, 1, any, any, size, size - 1, size + 1, 127, 128])
     }
 
     /// An endpoint, with bits that are not looked at.
@@ -67,14 +91,14 @@ impl Requests {
     }
 
     fn descriptor(&self, rng: &mut Rng) -> [u8; 8] {
-        let kind = rng.pick(&[1, 1, 2, 2, 3, 3, 3, 3, 0, 4, 5, 6, 7, 11, 15, 16, 255u16]);
-        let number = rng.pick(&[0, 0, 1, 2, 3, 4, 255u16]);
+        let kind = rng.pick(&[1, 1, 1, 1, 2, 2, 2, 2, 3, 3, 3, 3, 3, 3, 3, 3, 0, 4, 5, 6, 7, 11, 15, 16, 255u16]);
+        let number = rng.pick(&[0, 0, 1, 1, 2, 2, 3, 3, 4, 255u16]);
         let who = if rng.once_in(24) { rng.pick(&[0x81, 0x82, 0x83]) } else { 0x80 };
         setup(who, 6, kind << 8 | number, self.language(rng), self.in_length(rng))
     }
 
     fn other_get(&self, rng: &mut Rng) -> [u8; 8] {
-        let request = rng.pick(&[0, 0, 0, 8, 8, 10, 10, 12, 1, 5, 9]);
+        let request = rng.pick(&[0, 0, 0, 0, 0, 0, 8, 8, 8, 10, 10, 10, 12, 1, 5, 9]);
         let (kind, index) = match rng.below(5) {
             0 => (0x80, rng.pick(&[0, 1, 0xffff])),
             1 => (0x81, rng.pick(&[0, 1, 255, 256, 0x0101])),
@@ -87,19 +111,19 @@ impl Requests {
     }
 
     fn feature(&self, rng: &mut Rng) -> [u8; 8] {
-        let (kind, value) = rng.pick(&[(0, 1), (2, 0), (2, 0), (2, 0), (1, 0), (0, 0), (2, 1), (0, 2), (0, 256 + 1), (2, 256), (3, 0), (31, 1)]);
+        let (kind, value) = rng.pick(&FEATURES);
         setup(kind, rng.pick(&[1, 3]), value, self.endpoint(rng), self.out_length(rng))
     }
 
     fn set(&self, rng: &mut Rng) -> [u8; 8] {
         let index = rng.pick(&[0, 0, 0, 1, 255, 256]);
         let length = self.out_length(rng);
-        match rng.below(8) {
-            0 | 1 => setup(0, 5, rng.pick(&[0, 1, 5, 64, 127, 128, 255, 256 + 5, 0xffff]), index, length),
-            2 | 3 => setup(0, 9, rng.pick(&[0, 1, 1, 1, 2, 256, 257]), index, length),
-            4 => setup(1, 11, rng.pick(&[0, 0, 1, 255, 256]), index, length),
-            5 => setup(rng.pick(&[0, 1, 2]), rng.pick(&[7, 12, 4, 2, 0, 6, 8]), rng.word(), index, length),
-            6 => setup(rng.pick(&[0x20, 0x40, 0x41, 0x60, 0x7f]), rng.pick(&[1, 2, 9, 5]), rng.word(), index, length),
+        match rng.below(12) {
+            0..=2 => setup(0, 5, rng.pick(&[1, 2, 5, 64, 100, 126, 127, 0, 128, 255, 261, 0xffff]), index, length),
+            3..=5 => setup(0, 9, rng.pick(&[0, 1, 1, 1, 2, 256, 257]), index, length),
+            6 | 7 => setup(1, 11, rng.pick(&[0, 0, 1, 255, 256]), index, length),
+            8 => setup(rng.pick(&[0, 1, 2]), rng.pick(&[7, 12, 4, 2, 0, 6, 8]), rng.word(), index, length),
+            9 | 10 => setup(rng.pick(&[0x20, 0x40, 0x41, 0x60, 0x7f]), rng.pick(&[1, 2, 9, 5]), rng.word(), index, length),
             _ => setup(rng.pick(&[1, 2, 3, 0x1f]), rng.pick(&[5, 9, 11]), rng.pick(&[0, 1, 5]), index, length),
         }
     }
