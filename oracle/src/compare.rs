@@ -1,4 +1,4 @@
-//! The comparison: limits, every short stream, then streams of a seeded host until the events are used up.
+//! The comparison: the limits, every short stream, then streams of a seeded host until there were as many events as asked for.
 
 use crate::drive::{drive, replay, Case, Found};
 use crate::event::{hex, told, Event};
@@ -66,6 +66,8 @@ pub fn books() -> [&'static [u8]; 4] {
 fn streams(events: u64, seed: u64, books: &[&'static [u8]], watch: &mut Watch) -> Result<(), ()> {
     let mut rng = Rng::new(seed);
     let mut history = vec![];
+    // at least half as many as were asked for, whatever the limits and the short streams took
+    let events = events.max(watch.tally.events + events / 2);
     while watch.tally.events < events {
         let (packet, quirk) = (rng.pick(&[8, 16, 32, 64]), rng.once_in(3));
         let case = Case { record: Record::random(&mut rng, packet, quirk), book: rng.pick(books) };
@@ -78,7 +80,7 @@ fn streams(events: u64, seed: u64, books: &[&'static [u8]], watch: &mut Watch) -
     Ok(())
 }
 
-/// How deep the short streams go: a third of the events at most goes into them.
+/// How deep the short streams go; their number grows sixteenfold with each event.
 fn depth(events: u64) -> usize {
     match events {
         0..=999_999 => 3,

@@ -87,6 +87,7 @@ fn setups() -> Vec<Listed> {
         listed("a SETUP of another length: the Rust has it in the answer", Outcome::Differs, plain(), vec![device(18), Data::setup(&[0xaa; 18]).event(), done(), done()]),
         listed("a SETUP of another length: the Rust has it in the OUT data", Outcome::Differs, plain(), vec![ask(0x40, 2, 0, 0, 9), out(&[1; 8]), Data::setup(&[0xaa; 7]).event(), out(&[2])]),
         listed("a stalled request, then GET_STATUS of endpoint 80h", Outcome::Differs, plain(), vec![ask(0x80, 12, 0, 0, 2), ask(0x82, 0, 0, 0x80, 2)]),
+        listed("a halt of endpoint 80h set by SET_FEATURE, then GET_STATUS of it", Outcome::Differs, plain(), vec![ask(2, 3, 0, 0x80, 0), done(), ask(0x82, 0, 0, 0x80, 2)]),
         listed("an accepted SETUP unstalls IN (left out of the comparison)", Outcome::Differs, plain(), vec![ask(0x80, 12, 0, 0, 2), device(8)]),
     ]
 }
