@@ -40,6 +40,10 @@ pub struct Host {
 impl Host {
     pub fn any(case: &Case, mut rng: Rng, events: usize) -> Self {
         let mischief = rng.pick(&[0, 64, 16, 8, 4, 2, 1]);
+        Host::astray_once_in(mischief, case, rng, events)
+    }
+
+    pub fn astray_once_in(mischief: usize, case: &Case, rng: Rng, events: usize) -> Self {
         Host { mischief, left: events, plan: None, ..Host::planned(case, rng, vec![]) }
     }
 
@@ -58,7 +62,9 @@ impl Host {
         if let Some(plan) = &mut self.plan {
             return plan.next();
         }
-        let packet = self.rng.pick(&[self.requests.packet, self.requests.packet, 8, 64, 33, 1]);
+        let size = self.requests.packet;
+        // rarely byte by byte, which takes many events
+        let packet = if self.rng.once_in(40) { 1 } else { self.rng.pick(&[size, size, size, 8, 64, 33]) };
         let extra = if self.rng.once_in(4) { self.rng.below(65) } else { 0 };
         Some(Transfer { setup: self.requests.setup(&mut self.rng), packet, extra })
     }

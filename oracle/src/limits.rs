@@ -45,11 +45,14 @@ fn endpoints() -> Vec<Transfer> {
     all.chain((0..=128).map(|address| setup(0, 5, address, 0, 0))).map(get).collect()
 }
 
+/// Interfaces, endpoints and languages: the fewest, some, the most.
+const COUNTS: [[usize; 3]; 4] = [[1, 0, 0], [2, 3, 2], [4, 8, 4], [1, 8, 1]];
+
 pub fn run(books: &[&'static [u8]], watch: &mut Watch) -> Result<(), ()> {
     let mut rng = Rng::new(7);
     for packet in [8, 16, 32, 64] {
         for (i, book) in books.iter().enumerate() {
-            let record = Record::random(&mut rng, packet, i % 2 == 1);
+            let record = Record::with_counts(&mut rng, packet, i % 2 == 1, COUNTS[i]);
             let plans = [outs(packet as usize), tiles((book.len() / 16) as u16), descriptors(&record), endpoints()];
             let case = Case { record, book };
             for plan in plans {

@@ -71,9 +71,8 @@ fn string(rng: &mut Rng) -> Option<Vec<u16>> {
     }
 }
 
-fn endpoints(rng: &mut Rng, interfaces: usize) -> Vec<Endpoint> {
+fn endpoints(rng: &mut Rng, interfaces: usize, count: usize) -> Vec<Endpoint> {
     let mut list: Vec<Endpoint> = vec![];
-    let count = rng.below(9);
     while list.len() < count {
         let address = 1 + rng.below(15) as u8 | rng.pick(&[0, 0x80]);
         if list.iter().all(|end| end.address != address) {
@@ -85,9 +84,8 @@ fn endpoints(rng: &mut Rng, interfaces: usize) -> Vec<Endpoint> {
 }
 
 /// The first language has every string that another has: the Rust takes the numbers of strings from it alone.
-fn languages(rng: &mut Rng) -> Vec<(u16, Strings)> {
+fn languages(rng: &mut Rng, count: usize) -> Vec<(u16, Strings)> {
     let mut list: Vec<(u16, Strings)> = vec![];
-    let count = rng.below(5);
     while list.len() < count {
         let any = rng.word();
         let id = rng.pick(&[0x0409, 0x0407, 0x0000, 0xffff, any]);
@@ -105,7 +103,12 @@ fn languages(rng: &mut Rng) -> Vec<(u16, Strings)> {
 
 impl Record {
     pub fn random(rng: &mut Rng, packet: u8, quirk: bool) -> Record {
-        let interfaces: Vec<[u8; 3]> = (0..1 + rng.below(4)).map(|_| [rng.byte(), rng.byte(), rng.byte()]).collect();
+        let counts = [1 + rng.below(4), rng.below(9), rng.below(5)];
+        Record::with_counts(rng, packet, quirk, counts)
+    }
+
+    /// With so many interfaces, endpoints and languages.
+    pub fn with_counts(rng: &mut Rng, packet: u8, quirk: bool, counts: [usize; 3]) -> Record {
         Record {
             packet,
             codes: [rng.byte(), rng.byte(), rng.byte()],
@@ -116,9 +119,9 @@ impl Record {
             powered: rng.once_in(2),
             wakeup: rng.once_in(2),
             quirk,
-            endpoints: endpoints(rng, interfaces.len()),
-            interfaces,
-            languages: languages(rng),
+            interfaces: (0..counts[0]).map(|_| [rng.byte(), rng.byte(), rng.byte()]).collect(),
+            endpoints: endpoints(rng, counts[0], counts[1]),
+            languages: languages(rng, counts[2]),
         }
     }
 

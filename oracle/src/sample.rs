@@ -25,7 +25,7 @@ struct Stream {
 }
 
 fn play(case: &Case, powered: bool, rng: Rng) -> Option<Stream> {
-    let mut host = Host::any(case, rng, usize::MAX);
+    let mut host = Host::astray_once_in(12, case, rng, usize::MAX);
     let mut stream = Stream { powered, case: case.clone(), events: vec![], trace: vec![] };
     original::with(&case.record, case.book, &mut |original| {
         original.set_self_powered(powered);
