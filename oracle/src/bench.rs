@@ -118,7 +118,14 @@ impl Bare<'_> {
 }
 
 impl UsbBus for Bare<'_> {
-    fn alloc_ep(&mut self, _: UsbDirection, address: Option<EndpointAddress>, _: EndpointType, _: u16, _: u8) -> Result<EndpointAddress> {
+    fn alloc_ep(
+        &mut self,
+        _: UsbDirection,
+        address: Option<EndpointAddress>,
+        _: EndpointType,
+        _: u16,
+        _: u8,
+    ) -> Result<EndpointAddress> {
         address.ok_or(UsbError::InvalidEndpoint)
     }
 
@@ -248,7 +255,8 @@ fn check(case: &Case, events: &[Event]) {
 
 fn mix(events: &[Event], counts: [usize; 2]) {
     let setups = events.iter().filter(|event| accepted(event).is_some()).count();
-    let done = events.iter().filter(|event| event[0] == DATA && event[8] & 1 == 0 && event[4] & 1 == 0 && event[6] & 1 != 0).count();
+    let done =
+        events.iter().filter(|event| event[0] == DATA && event[8] & 1 == 0 && event[4] & 1 == 0 && event[6] & 1 != 0).count();
     let out = events.iter().filter(|event| event[0] == DATA && event[8] & 1 == 0 && event[4] & 1 != 0).count();
     let [others, tiles] = counts;
     println!("{} events: {tiles} of tile reads, {others} others; {setups} SETUPs, {done} IN-completes, {out} OUT", events.len());

@@ -116,7 +116,14 @@ pub struct Bus<'a, const QUIRK: bool>(pub &'a Wire);
 impl<const QUIRK: bool> UsbBus for Bus<'_, QUIRK> {
     const QUIRK_SET_ADDRESS_BEFORE_STATUS: bool = QUIRK;
 
-    fn alloc_ep(&mut self, _: UsbDirection, address: Option<EndpointAddress>, _: EndpointType, _: u16, _: u8) -> Result<EndpointAddress> {
+    fn alloc_ep(
+        &mut self,
+        _: UsbDirection,
+        address: Option<EndpointAddress>,
+        _: EndpointType,
+        _: u16,
+        _: u8,
+    ) -> Result<EndpointAddress> {
         address.ok_or(UsbError::InvalidEndpoint)
     }
 

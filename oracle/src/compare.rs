@@ -28,7 +28,12 @@ impl Watch {
     fn show(&mut self) {
         if self.shown.elapsed() > Duration::from_secs(5) {
             self.shown = Instant::now();
-            eprintln!("{} events in {} streams, {} s, no difference", self.tally.events, self.tally.streams, self.start.elapsed().as_secs());
+            eprintln!(
+                "{} events in {} streams, {} s, no difference",
+                self.tally.events,
+                self.tally.streams,
+                self.start.elapsed().as_secs()
+            );
         }
     }
 

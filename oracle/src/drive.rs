@@ -176,7 +176,14 @@ impl Run<'_> {
     }
 }
 
-fn drive_in(slices: Slices, case: &Case, source: &mut dyn Source, mutant: Mutant, tally: &mut Tally, history: &mut Vec<Event>) -> Found {
+fn drive_in(
+    slices: Slices,
+    case: &Case,
+    source: &mut dyn Source,
+    mutant: Mutant,
+    tally: &mut Tally,
+    history: &mut Vec<Event>,
+) -> Found {
     let mut bytes = case.record.bytes();
     mutant.record(&mut bytes);
     let ours = match Ours::build(&bytes, case.book) {

@@ -40,7 +40,9 @@ fn descriptors(record: &Record) -> Vec<Transfer> {
 }
 
 fn endpoints() -> Vec<Transfer> {
-    let asks = |index: u16| [setup(2, 3, 0, index, 0), setup(0x82, 0, 0, index, 2), setup(2, 1, 0, index, 0), setup(0x82, 0, 0, index, 2)];
+    let asks = |index: u16| {
+        [setup(2, 3, 0, index, 0), setup(0x82, 0, 0, index, 2), setup(2, 1, 0, index, 0), setup(0x82, 0, 0, index, 2)]
+    };
     let all = (0..256).filter(|index| index & 0x8f != 0x80).flat_map(asks);
     all.chain((0..=128).map(|address| setup(0, 5, address, 0, 0))).map(get).collect()
 }

@@ -24,7 +24,8 @@ use std::process::ExitCode;
 
 fn main() -> ExitCode {
     let words: Vec<String> = std::env::args().skip(1).collect();
-    let number = |at: usize, otherwise: u64| words.get(at).map_or(Some(otherwise), |word| word.replace([',', '_'], "").parse().ok());
+    let number =
+        |at: usize, otherwise: u64| words.get(at).map_or(Some(otherwise), |word| word.replace([',', '_'], "").parse().ok());
     // a panic of the Rust is caught and told as an outcome
     std::panic::set_hook(Box::new(|_| ()));
     match (words.first().map(String::as_str), number(1, 10_000_000), number(2, 1)) {

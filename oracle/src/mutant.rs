@@ -64,7 +64,9 @@ impl Mutant {
     pub fn entry(self, event: &Event, entry: &mut Entry) {
         match self.0 {
             2 if accepted(event).is_none() && entry[ACTIONS] == UNSTALL_OUT => entry[ACTIONS] = 0,
-            3 if accepted(event).is_some_and(|setup| setup[..2] == [0, 5]) && has_action(entry, WRITE) && entry[0] == 0 => entry[0] = 1,
+            3 if accepted(event).is_some_and(|setup| setup[..2] == [0, 5]) && has_action(entry, WRITE) && entry[0] == 0 => {
+                entry[0] = 1
+            }
             11 if event[0] == DATA => entry[4] |= event[4] & 0xfe,
             18 if event[0] == RESUME => entry[1] = 1,
             _ => {}

@@ -181,7 +181,13 @@ fn described(id: u16, strings: &[Option<String>; 3]) -> StringDescriptors<'_> {
 }
 
 /// A device of the Rust and its class, on any bus.
-pub fn built<'a, B: UsbBus>(alloc: &'a UsbBusAllocator<B>, record: &Record, texts: &'a Texts, book: &'static [u8], wire: Option<&'a Wire>) -> (UsbDevice<'a, B>, Mast<'a, B>) {
+pub fn built<'a, B: UsbBus>(
+    alloc: &'a UsbBusAllocator<B>,
+    record: &Record,
+    texts: &'a Texts,
+    book: &'static [u8],
+    wire: Option<&'a Wire>,
+) -> (UsbDevice<'a, B>, Mast<'a, B>) {
     let class = Mast { faces: faces(alloc, record), book, wire };
     let device = UsbDeviceBuilder::new(alloc, UsbVidPid(record.vendor, record.product))
         .device_class(record.codes[0])

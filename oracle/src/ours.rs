@@ -10,7 +10,16 @@ pub const LIVE: usize = RECORD;
 extern "C" {
     fn mast_size() -> usize;
     fn mast_build(record: *const u8, record_len: usize, book: usize, state: *mut u8, state_len: usize) -> u8;
-    fn mast_run(state: *mut u8, state_len: usize, book: *const u8, book_len: usize, events: *const u8, events_len: usize, trace: *mut u8, trace_len: usize) -> usize;
+    fn mast_run(
+        state: *mut u8,
+        state_len: usize,
+        book: *const u8,
+        book_len: usize,
+        events: *const u8,
+        events_len: usize,
+        trace: *mut u8,
+        trace_len: usize,
+    ) -> usize;
     fn mast_data(state: *const u8, state_len: usize, room: *mut u8, room_len: usize) -> usize;
     fn mast_set_self_powered(state: *mut u8, state_len: usize, on: bool) -> u8;
 }
@@ -51,7 +60,18 @@ impl Ours {
     pub fn run(&mut self, events: &[Event], trace: &mut [Entry]) -> Answer {
         let (book, events, trace) = (self.book, events.as_flattened(), trace.as_flattened_mut());
         debug_assert_eq!(events.len() / EVENT, trace.len() / ENTRY);
-        let answer = unsafe { mast_run(self.state.as_mut_ptr(), STATE, book.as_ptr(), book.len(), events.as_ptr(), events.len(), trace.as_mut_ptr(), trace.len()) };
+        let answer = unsafe {
+            mast_run(
+                self.state.as_mut_ptr(),
+                STATE,
+                book.as_ptr(),
+                book.len(),
+                events.as_ptr(),
+                events.len(),
+                trace.as_mut_ptr(),
+                trace.len(),
+            )
+        };
         parted(answer)
     }
 

@@ -77,7 +77,13 @@ fn endpoints(rng: &mut Rng, interfaces: usize, count: usize) -> Vec<Endpoint> {
         let address = 1 + rng.below(15) as u8 | rng.pick(&[0, 0x80]);
         if list.iter().all(|end| end.address != address) {
             let size = rng.pick(&[1, 7, 8, 63, 64, 33]);
-            list.push(Endpoint { address, interrupt: rng.once_in(2), size, interval: rng.byte(), interface: rng.below(interfaces) as u8 });
+            list.push(Endpoint {
+                address,
+                interrupt: rng.once_in(2),
+                size,
+                interval: rng.byte(),
+                interface: rng.below(interfaces) as u8,
+            });
         }
     }
     list

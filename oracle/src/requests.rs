@@ -129,7 +129,13 @@ impl Requests {
     }
 
     fn foreign_get(&self, rng: &mut Rng) -> [u8; 8] {
-        setup(rng.pick(&[0xa0, 0xc0, 0xc1, 0xc3, 0xdf, 0xe0]), rng.pick(&[0, 1, 2, 6]), rng.pick(&[0, 1]), rng.pick(&[0, 1]), self.in_length(rng))
+        setup(
+            rng.pick(&[0xa0, 0xc0, 0xc1, 0xc3, 0xdf, 0xe0]),
+            rng.pick(&[0, 1, 2, 6]),
+            rng.pick(&[0, 1]),
+            rng.pick(&[0, 1]),
+            self.in_length(rng),
+        )
     }
 
     pub fn setup(&self, rng: &mut Rng) -> [u8; 8] {

@@ -2,7 +2,8 @@
 
 use crate::event::*;
 
-const STAGES: [&str; 9] = ["Idle", "DataIn", "DataInZlp", "DataInLast", "StatusOut", "CompleteOut", "DataOut", "StatusIn", "Error"];
+const STAGES: [&str; 9] =
+    ["Idle", "DataIn", "DataInZlp", "DataInLast", "StatusOut", "CompleteOut", "DataOut", "StatusIn", "Error"];
 
 const CLASSES: [&str; 15] = [
     "nothing",
@@ -65,7 +66,8 @@ impl Tally {
                 self.actions[action[0] as usize] += 1;
             }
             self.in_data += entry[ACTIONS..WRITTEN].chunks(2).filter(|a| a[0] == WRITE).map(|a| a[1] as u64).sum::<u64>();
-            self.early += (event[0] == DATA && event[4] & 1 != 0 && event[8] & 1 == 0 && event[1] == READ_PACKET && event[3] == 0) as u64;
+            self.early +=
+                (event[0] == DATA && event[4] & 1 != 0 && event[8] & 1 == 0 && event[1] == READ_PACKET && event[3] == 0) as u64;
         }
     }
 
@@ -94,10 +96,23 @@ impl Tally {
 
     pub fn print(&self) {
         let [nothing, reset, suspend, resume, data] = self.kinds;
-        println!("{} streams, {} events: {data} data, {nothing} nothing, {reset} reset, {suspend} suspend, {resume} resume", self.streams, self.events);
-        println!("{} accepted SETUPs, {} empty OUT packets, {} settings of the self-powered flag", self.setups, self.early, self.flags);
+        println!(
+            "{} streams, {} events: {data} data, {nothing} nothing, {reset} reset, {suspend} suspend, {resume} resume",
+            self.streams, self.events
+        );
+        println!(
+            "{} accepted SETUPs, {} empty OUT packets, {} settings of the self-powered flag",
+            self.setups, self.early, self.flags
+        );
         let at = |code: u8| self.actions[code as usize];
-        println!("{} packets taken with {} bytes, {} refused, {} stalls, {} unstalls of OUT", at(WRITE), self.in_data, at(REFUSED), at(STALL_OUT), at(UNSTALL_OUT));
+        println!(
+            "{} packets taken with {} bytes, {} refused, {} stalls, {} unstalls of OUT",
+            at(WRITE),
+            self.in_data,
+            at(REFUSED),
+            at(STALL_OUT),
+            at(UNSTALL_OUT)
+        );
         self.print_met();
         println!("{} halts set, {} cleared, {} addresses set", at(HALT), at(UNHALT), at(ADDRESS));
     }
