@@ -5,7 +5,7 @@ use crate::domain::{inside, Seen};
 use crate::drive::{Case, Source};
 use crate::event::*;
 use crate::host::{Host, Transfer};
-use crate::original;
+use crate::original::{self, Original};
 use crate::ours::Ours;
 use crate::record::{book, Record};
 use crate::requests::{setup, Requests};
@@ -14,13 +14,14 @@ use std::cell::Cell;
 use std::hint::black_box;
 use std::process::ExitCode;
 use usb_device::bus::{PollResult, UsbBus, UsbBusAllocator};
+use usb_device::device::UsbDevice;
 use usb_device::endpoint::{EndpointAddress, EndpointType};
 use usb_device::{Result, UsbDirection, UsbError};
 
 const EVENTS: usize = 1_000_000;
 /// How many events a side is given at once.
 const SLICE: usize = 4096;
-const ROUNDS: usize = 15;
+const ROUNDS: usize = 11;
 
 /// Whole transfers, tile reads and others in turn, so that half of the events are of tile reads.
 struct Mix<'a> {
@@ -200,37 +201,69 @@ fn nanoseconds() -> i64 {
     time[0] * 1_000_000_000 + time[1]
 }
 
-/// Nanoseconds for each event.
-fn timed(events: usize, f: impl FnOnce()) -> f64 {
-    let start = nanoseconds();
-    f();
-    (nanoseconds() - start) as f64 / events as f64
+/// The Rust on the bare bus.
+struct Plain<'a> {
+    event: &'a Cell<*const Event>,
+    device: UsbDevice<'a, Bare<'a>>,
+    class: original::Mast<'a, Bare<'a>>,
 }
 
-fn time_rust(case: &Case, events: &[Event], trace: &mut [Entry]) -> f64 {
-    original::with(&case.record, case.book, &mut |original| {
-        timed(events.len(), || events.chunks(SLICE).for_each(|slice| original.run(slice, black_box(&mut trace[..slice.len()]))))
-    })
+impl Plain<'_> {
+    fn run(&mut self, events: &[Event]) {
+        for event in events {
+            self.event.set(event);
+            black_box(self.device.poll(&mut [&mut self.class]));
+        }
+    }
 }
 
-fn time_bare(case: &Case, events: &[Event]) -> f64 {
+/// The four that are timed.
+struct Racers<'a, 'b> {
+    rust: &'a mut dyn Original,
+    ours: Ours,
+    plain: &'a mut Plain<'b>,
+    single: Ours,
+    trace: Vec<Entry>,
+}
+
+impl Racers<'_, '_> {
+    fn run(&mut self, who: usize, slice: &[Event]) {
+        let trace = black_box(&mut self.trace[..slice.len()]);
+        match who {
+            0 => self.rust.run(slice, trace),
+            1 => assert_eq!(self.ours.run(slice, trace), (slice.len(), 0)),
+            2 => self.plain.run(slice),
+            _ => slice.iter().for_each(|event| assert_eq!(self.single.run(&[*event], &mut trace[..1]), (1, 0))),
+        }
+    }
+
+    /// Nanoseconds an event of each. They take turns at every slice, another one first each time, so that a busy machine and a
+    /// cold cache hit all alike.
+    fn round(&mut self, events: &[Event]) -> [f64; 4] {
+        let mut sums = [0; 4];
+        for (i, slice) in events.chunks(SLICE).enumerate() {
+            for turn in 0..4 {
+                let who = (i + turn) % 4;
+                let start = nanoseconds();
+                self.run(who, slice);
+                sums[who] += nanoseconds() - start;
+            }
+        }
+        sums.map(|sum| sum as f64 / events.len() as f64)
+    }
+}
+
+fn built(case: &Case) -> Ours {
+    Ours::build(&case.record.bytes(), case.book).expect("the record is good")
+}
+
+fn round(case: &Case, events: &[Event]) -> [f64; 4] {
     let (event, texts) = (Cell::new(events.as_ptr()), case.record.texts());
     let alloc = UsbBusAllocator::new(Bare { event: &event, room: Cell::new([0; PACKET]), halts: Cell::new(0) });
-    let (mut device, mut class) = original::built(&alloc, &case.record, &texts, case.book, None);
-    timed(events.len(), || {
-        for one in events {
-            event.set(one);
-            black_box(device.poll(&mut [&mut class]));
-        }
-    })
-}
-
-fn time_ours(case: &Case, events: &[Event], trace: &mut [Entry], slice: usize) -> f64 {
-    let mut ours = Ours::build(&case.record.bytes(), case.book).expect("the record is good");
-    timed(events.len(), || {
-        for part in events.chunks(slice) {
-            assert_eq!(ours.run(part, black_box(&mut trace[..part.len()])), (part.len(), 0));
-        }
+    let (device, class) = original::built(&alloc, &case.record, &texts, case.book, None);
+    let mut plain = Plain { event: &event, device, class };
+    original::with(&case.record, case.book, &mut |rust| {
+        Racers { rust, ours: built(case), plain: &mut plain, single: built(case), trace: vec![[0; ENTRY]; SLICE] }.round(events)
     })
 }
 
@@ -241,7 +274,7 @@ fn median(mut list: Vec<f64>) -> f64 {
 
 /// The times are of equal work only if both give the same trace.
 fn check(case: &Case, events: &[Event]) {
-    let mut ours = Ours::build(&case.record.bytes(), case.book).expect("the record is good");
+    let mut ours = built(case);
     let (mut left, mut right) = (vec![[0; ENTRY]; SLICE], vec![[0; ENTRY]; SLICE]);
     original::with(&case.record, case.book, &mut |original| {
         for slice in events.chunks(SLICE) {
@@ -262,30 +295,26 @@ fn mix(events: &[Event], counts: [usize; 2]) {
     println!("{} events: {tiles} of tile reads, {others} others; {setups} SETUPs, {done} IN-completes, {out} OUT", events.len());
 }
 
-fn size(packet: u8) {
-    let case = Case { record: Record::random(&mut Rng::new(packet as u64), packet, false), book: book(4096) };
+/// With so many interfaces, endpoints and languages, which ours looks at in each step.
+fn race(packet: u8, counts: [usize; 3]) {
+    let record = Record::with_counts(&mut Rng::new(packet as u64), packet, false, counts);
+    let case = Case { record, book: book(4096) };
     let (events, counts) = make(&case);
-    println!("packet size {packet}");
+    println!("{}, book of 4096 records", case.record.told());
     mix(&events, counts);
     check(&case, &events);
-    let mut trace = vec![[0; ENTRY]; SLICE];
-    let mut times: [Vec<f64>; 4] = Default::default();
-    for _ in 0..ROUNDS {
-        times[0].push(time_rust(&case, &events, &mut trace));
-        times[1].push(time_ours(&case, &events, &mut trace, SLICE));
-        times[2].push(time_bare(&case, &events));
-        times[3].push(time_ours(&case, &events, &mut trace, 1));
-    }
-    let ratio = |of: &Vec<f64>| median(times[1].iter().zip(of).map(|(ours, rust)| ours / rust).collect());
-    let (traced, bare) = (ratio(&times[0]), ratio(&times[2]));
-    let [rust, ours, plain, single] = times.map(median);
+    let rounds: Vec<[f64; 4]> = (0..ROUNDS).map(|_| round(&case, &events)).collect();
+    let ratio = |to: usize| median(rounds.iter().map(|times| times[1] / times[to]).collect());
+    let [rust, ours, plain, single] = [0, 1, 2, 3].map(|who| median(rounds.iter().map(|times| times[who]).collect()));
     println!("the Rust {rust:.1} ns an event with a trace, {plain:.1} on a bare bus; ours {ours:.1} with a trace");
-    println!("ours / the Rust: {traced:.2} (bare bus: {bare:.2}); median of {ROUNDS} interleaved runs");
+    println!("ours / the Rust: {:.2} (bare bus: {:.2}); median of {ROUNDS} interleaved rounds", ratio(0), ratio(2));
     println!("a call for each event: {single:.1} ns");
 }
 
 pub fn main() -> ExitCode {
-    size(8);
-    size(64);
+    for counts in [[1, 1, 1], [4, 8, 4]] {
+        race(8, counts);
+        race(64, counts);
+    }
     ExitCode::SUCCESS
 }
