@@ -1,28 +1,11 @@
-//! Ours, through the archive that `rt staticlib link` writes.
+//! Ours, through the wrapper of `bind/rust` and the archive that `rt staticlib link` writes.
 
-use crate::event::{Entry, Event, ENTRY, EVENT};
+use crate::event::{Entry, Event};
+use mast::Refusal;
 
-pub const RECORD: usize = 833;
-pub const STATE: usize = 1005;
+pub use mast::{RECORD, STATE};
 /// Where the 44 bytes begin that a device holds beside its record (crates/live_bytes/specs/Layout.antt).
 pub const LIVE: usize = RECORD;
-
-extern "C" {
-    fn mast_size() -> usize;
-    fn mast_build(record: *const u8, record_len: usize, book: usize, state: *mut u8, state_len: usize) -> u8;
-    fn mast_run(
-        state: *mut u8,
-        state_len: usize,
-        book: *const u8,
-        book_len: usize,
-        events: *const u8,
-        events_len: usize,
-        trace: *mut u8,
-        trace_len: usize,
-    ) -> usize;
-    fn mast_data(state: *const u8, state_len: usize, room: *mut u8, room_len: usize) -> usize;
-    fn mast_set_self_powered(state: *mut u8, state_len: usize, on: bool) -> u8;
-}
 
 /// What both sides hold beside their pipes.
 #[derive(Clone, Copy, PartialEq, Eq, Debug)]
@@ -42,51 +25,37 @@ pub struct Ours {
 /// A count and the number of a refusal.
 pub type Answer = (usize, u8);
 
-fn parted(answer: usize) -> Answer {
-    (answer >> 4, (answer & 15) as u8)
+fn number(refusal: Option<Refusal>) -> u8 {
+    refusal.map_or(0, |why| why.0)
 }
 
 impl Ours {
     /// Or the number of the refusal.
     pub fn build(record: &[u8; RECORD], book: &'static [u8]) -> Result<Ours, u8> {
-        assert_eq!(unsafe { mast_size() }, STATE);
+        assert_eq!(mast::size(), STATE);
         let mut ours = Ours { state: [0; STATE], book };
-        match unsafe { mast_build(record.as_ptr(), RECORD, book.len(), ours.state.as_mut_ptr(), STATE) } {
-            0 => Ok(ours),
-            number => Err(number),
-        }
+        mast::build(record, book.len(), &mut ours.state).map_err(|why| why.0)?;
+        Ok(ours)
     }
 
     pub fn run(&mut self, events: &[Event], trace: &mut [Entry]) -> Answer {
-        let (book, events, trace) = (self.book, events.as_flattened(), trace.as_flattened_mut());
-        debug_assert_eq!(events.len() / EVENT, trace.len() / ENTRY);
-        let answer = unsafe {
-            mast_run(
-                self.state.as_mut_ptr(),
-                STATE,
-                book.as_ptr(),
-                book.len(),
-                events.as_ptr(),
-                events.len(),
-                trace.as_mut_ptr(),
-                trace.len(),
-            )
-        };
-        parted(answer)
+        debug_assert_eq!(events.len(), trace.len());
+        let ran = mast::run(&mut self.state, self.book, events.as_flattened(), trace.as_flattened_mut());
+        (ran.count, number(ran.refusal))
     }
 
     /// The OUT data, or nothing where it is refused with 7; another number is a difference, told as Err.
     pub fn data(&self) -> Result<Option<Vec<u8>>, u8> {
         let mut room = [0; 128];
-        match parted(unsafe { mast_data(self.state.as_ptr(), STATE, room.as_mut_ptr(), room.len()) }) {
-            (count, 0) => Ok(Some(room[..count].to_vec())),
-            (_, 7) => Ok(None),
-            (_, number) => Err(number),
+        match mast::data(&self.state, &mut room) {
+            Ok(count) => Ok(Some(room[..count].to_vec())),
+            Err(Refusal(7)) => Ok(None),
+            Err(why) => Err(why.0),
         }
     }
 
     pub fn set_self_powered(&mut self, on: bool) -> u8 {
-        unsafe { mast_set_self_powered(self.state.as_mut_ptr(), STATE, on) }
+        number(mast::set_self_powered(&mut self.state, on).err())
     }
 
     pub fn kept(&self) -> Kept {
