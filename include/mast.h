@@ -1,7 +1,8 @@
 /* The mast's USB device core, for C and C++.
  *
  * A caller holds a device as MAST_STATE bytes and lends them to each call. Nothing is kept between calls, nothing is allocated,
- * and any bytes get an answer: bytes that no device is written as are refusal 9. A refused call changes no lent byte.
+ * and any bytes get an answer: bytes that no device is written as are refusal 9. A refused call changes no lent byte;
+ * a run that is stopped on its way keeps what it did before.
  *
  * Every slice is a pointer and the number of its bytes. No pointer may be NULL, even of a slice of 0 bytes, and what a call may
  * write (a pointer without const) may not overlap what else it is lent. Two calls may run at a time on different states.

@@ -382,8 +382,17 @@ def reset_midway():
     get("8006000100004000", 4)
 
 
+def note_nine():
+    """Eight bytes where four are awaited: the data is the first four, and the request stalls."""
+    setup("4002000000000400")
+    out(bytes(range(8)))
+
+
+PARTS = (enumeration, features, tiles, abandoned, refused, whole_packets, out_data, out_of_turn, sleeping, reset_midway, note_nine)
+
+
 def main():
-    for part in (enumeration, features, tiles, abandoned, refused, whole_packets, out_data, out_of_turn, sleeping, reset_midway):
+    for part in PARTS:
         part()
     partial = event_record("nothing")[:40]
     with open("crates/transfers/stdin", "wb") as f:
@@ -394,7 +403,8 @@ def main():
         for event in EVENTS:
             actions = device.step(*event)
             lines.append(trace_entry(device, actions, *event).rstrip(b"\0").hex())
-        lines.append("%d %d 10 " % (size, len(EVENTS)))
+        data = device.data[: device.request[4]]
+        lines.append("%d %d 10 %d 0 %s" % (size, len(EVENTS), len(data), data.hex()))
     with open("crates/transfers/stdout", "w") as f:
         f.write("\n".join(lines) + "\n")
 

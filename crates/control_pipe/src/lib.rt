@@ -55,12 +55,13 @@ pub enum Source {
     Book,
 }
 
-// The IN answer: `len` bytes of its source from `start` on, of which `sent` are sent.
+// The IN answer: `len` bytes of its source from `start` on, of which `sent` are sent. With the source last no two fields share
+// a word of eight bytes, which a compiler would pack and unpack at every copy.
 pub struct Reply {
-    pub source: Source,
     pub start: u32,
     pub len: u32,
     pub sent: u32,
+    pub source: Source,
 }
 
 // The OUT data: bytes awaited, and bytes held in the buffer.

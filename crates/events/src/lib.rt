@@ -28,12 +28,13 @@ pub enum Write {
     Refused,
 }
 
-// What arrived: the masks of the endpoints, the one read and the one write.
+// What arrived: the masks of the endpoints, the one read and the one write. In this order it has ten bytes; eight would be packed
+// into one number and unpacked at every copy.
 pub struct Arrival {
-    pub out: u16,
-    pub done: u16,
     pub setup: u16,
     pub read: Read,
+    pub out: u16,
+    pub done: u16,
     pub write: Write,
 }
 
@@ -47,11 +48,11 @@ pub enum Event {
 
 // What an event does. The bus is told, in this order: resume, `first`, `act`, `second`.
 pub struct Handled {
-    pub live: Live,
     pub resumed: bool,
     pub first: Told,
     pub act: Action,
     pub second: Told,
+    pub live: Live,
     pub answer: bool,
 }
 

@@ -5,10 +5,10 @@ use events::Arrival;
 use events::Event;
 use events::Write;
 ghost use mathlib.Core.Path.{_≡_};
-ghost use Prim.Native.Nat.{_≤_};
+ghost use Prim.Native.Nat.{_+_, _≤_};
 ghost use lib.ListN.{length, take, drop};
 ghost use Rattle.common.specs.Lists.{every};
-ghost use Rattle.records.specs.Sizes.{eventRoom};
+ghost use Rattle.records.specs.Sizes.{eventRoom, headRoom, packetRoom};
 ghost use Rattle.records.specs.Records.{isZero, readAt, writeAt, arrivalOf, dataFine, plain, dataOf, knownOf, kindOf};
 
 // The bytes of an event record, of its head, and of the packet behind the head.
@@ -62,6 +62,18 @@ fn zeros(s: &[u8], from: usize, to: usize) -> bool
     seen == 0
 }
 
+// Whether all is 0 behind a packet of n bytes. Most have none or eight: a compiler that knows the bounds takes the bytes at once.
+fn filling(s: &[u8], n: usize) -> bool
+    requires { ⌜ (length (now s) ≡ eventRoom) × (n ≤ packetRoom) ⌝ }
+    ensures { λ r. ⌜ r ≡ every isZero (drop (headRoom + n) (take eventRoom (now (s .entry)))) ⌝ }
+{
+    match n {
+        0 => zeros(s, HEAD, EVENT),
+        8 => zeros(s, HEAD + 8, EVENT),
+        _ => zeros(s, HEAD + n, EVENT),
+    }
+}
+
 fn data_fine(s: &[u8]) -> bool
     requires { ⌜ length (now s) ≡ eventRoom ⌝ }
     ensures { λ r. ⌜ r ≡ dataFine (now (s .entry)) ⌝ }
@@ -78,7 +90,7 @@ fn data_fine(s: &[u8]) -> bool
     if !zeros(s, 10, HEAD) {
         return false;
     }
-    zeros(s, HEAD + s[3] as usize, EVENT)
+    filling(s, s[3] as usize)
 }
 
 fn arrival(s: &[u8]) -> Arrival

@@ -214,19 +214,26 @@ turn-bounds events trace i l = by (eqb (events % eventRoom) 0) refl
         let n : events % eventRoom ≡ 0 → ⊥ = eqb-false (events % eventRoom) 0 z in
         (omega (arith, k), omega (arith, k))
 
-pub slice-event : (events : List ℕ) (f : ℕ) → f ≤ length events → take (min (f + eventRoom) (length events) - f) (drop f events) ≡ take eventRoom (drop f events)
-slice-event events f l = by (leb (f + eventRoom) (length events)) refl
-  where
-    by : (t : Bool) → leb (f + eventRoom) (length events) ≡ t → take (min (f + eventRoom) (length events) - f) (drop f events) ≡ take eventRoom (drop f events)
-    by true z =
-        let k : f + eventRoom ≤ length events = leb-true (f + eventRoom) (length events) z in
-        let e : min (f + eventRoom) (length events) - f ≡ eventRoom = omega (arith, k) in
-        rw e refl
-    by false z =
-        let k : length events < f + eventRoom = leb-false (f + eventRoom) (length events) z in
-        let e : min (f + eventRoom) (length events) - f ≡ length events - f = omega (arith, k) in
-        let m : length (drop f events) ≡ length events - f = length-drop f events in
-        rw e (take-all (length events - f) (drop f events) (omega (arith, m)) ∙ sym (take-all eventRoom (drop f events) (omega (arith, m, k))))
+pub slice-event : (events : List ℕ) (f : ℕ) → take (f + eventRoom - f) (drop f events) ≡ take eventRoom (drop f events)
+slice-event events f = let e : f + eventRoom - f ≡ eventRoom = omega arith in rw e refl
+
+-- a turn of a whole record
+pub whole-bounds : (events trace i : ℕ) → i < min (turnsBy events trace) (events / eventRoom)
+    → (i < turnsBy events trace) × (eventRoom * i + eventRoom ≤ events) × (entryRoom * i + entryRoom ≤ trace)
+whole-bounds events trace i l =
+    let k : i < turnsBy events trace = omega (arith, l) in
+    (k, omega (arith, l), turn-bounds events trace i k .1)
+
+-- a partial record is refused with 10
+partial : (d : Device) (book s : List ℕ) → (length s ≡ eventRoom → ⊥) → turn d book s .number ≡ 10
+unfolding knownOf turnBy
+partial d book s z = rw (ne-eqb (length s) eventRoom z) refl
+
+partial-length : (events : List ℕ) (f : ℕ) → length events < f + eventRoom → length (take eventRoom (drop f events)) ≡ eventRoom → ⊥
+partial-length events f l e =
+    let m : length (drop f events) ≡ length events - f = length-drop f events in
+    let k : length (take eventRoom (drop f events)) ≡ length events - f = ap length (take-all eventRoom (drop f events) (omega (arith, m, l))) ∙ m in
+    omega (arith, k, l, e)
 
 -- ---- what a turn may do: its number is one of the table's, it keeps the record, and refused it does nothing
 
@@ -321,7 +328,7 @@ module _ (book events entry : List ℕ) (d₀ : Device) (n i : ℕ) (r : Record)
         let g = turn-device (deviceOf r live buffer) here fine (t .live) (t .held) in
         e ∙ (ap refusal (f .0) ∙ sym (ap refusal (ap (λ (d : Device). refusedBy d book clean) g ∙ f .1)))
 
-  pub run-over : {x : Ran} → n ≤ i → i ≤ n → x ≡ record { device = deviceOf r live buffer; count = n; refusal = None } → Running x trace (runs n d₀ book events) entry
+  run-over : {x : Ran} → n ≤ i → i ≤ n → x ≡ record { device = deviceOf r live buffer; count = n; refusal = None } → Running x trace (runs n d₀ book events) entry
   run-over {x} h j e =
       let w = run-end book (runs n d₀ book events) (deviceOf r live buffer) n i (take (entryRoom * i) trace) events h whole in
       let c : n ≡ 0 + i = omega (arith, h, j) in
@@ -329,6 +336,28 @@ module _ (book events entry : List ℕ) (d₀ : Device) (n i : ℕ) (r : Record)
         value = e ∙ (ap (λ (c : ℕ). record { device = deviceOf r live buffer; count = c; refusal = refusal 0 }) c ∙ ap ranOf (sym w));
         trace = front₀ ∙ ap (λ (y : List ℕ). placed entry 0 y) (sym (append-nil (take (entryRoom * i) trace)) ∙ ap (λ (y : Run). y .bytes) (sym w));
       }
+
+  -- behind the whole records: the turns are over, or the last of them is of a partial record
+  pub run-ended : {x : Ran} {k : ℕ} → k ≡ min n (length events / eventRoom) → k ≤ i → i ≤ k → x ≡ record { device = deviceOf r live buffer; count = k; refusal = refusal (cond (leb n k) 0 10) }
+      → Running x trace (runs n d₀ book events) entry
+  run-ended {x} {k} m h j e = by (leb n k) refl
+    where
+      by : (t : Bool) → leb n k ≡ t → Running x trace (runs n d₀ book events) entry
+      by true z =
+          let l : n ≤ k = leb-true n k z in
+          let c : k ≡ n = omega (arith, l, m) in
+          run-over (omega (arith, l, j, h)) (omega (arith, c, j)) (e ∙ rw (z, c) refl)
+      by false z =
+          let l : k < n = leb-false n k z in
+          let s = take eventRoom (drop (eventRoom * i) events) in
+          let u : turn (deviceOf r live buffer) book s .number ≡ 10 = partial (deviceOf r live buffer) book s (partial-length events (eventRoom * i) (omega (arith, m, l, h, j))) in
+          let w = run-stop book (runs n d₀ book events) (deviceOf r live buffer) n i (take (entryRoom * i) trace) events (omega (arith, l, j)) whole (λ y. (let q : _≡_ {A = ℕ} 10 0 = sym u ∙ y in omega (arith, q))) in
+          let v = w ∙ ap (λ (a : ℕ). longer (take (entryRoom * i) trace) i (stopped (deviceOf r live buffer) a)) u in
+          let c : k ≡ 0 + i = omega (arith, h, j) in
+          record {
+            value = e ∙ (rw z (ap (λ (c : ℕ). record { device = deviceOf r live buffer; count = c; refusal = refusal 10 }) c) ∙ ap ranOf (sym v));
+            trace = front₀ ∙ ap (λ (y : List ℕ). placed entry 0 y) (sym (append-nil (take (entryRoom * i) trace)) ∙ ap (λ (y : Run). y .bytes) (sym v));
+          }
 
 -- ---- how many turns
 

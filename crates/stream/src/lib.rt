@@ -17,7 +17,8 @@ use records::PACKET;
 use requests::State;
 ghost use mathlib.Core.Path.{_≡_};
 ghost use mathlib.Core.Bool.{cond};
-ghost use Prim.Native.Nat.{_+_, _≤_, min};
+ghost use Prim.Native.Nat.{_+_, _/_, _≤_, min};
+ghost use lib.Dec.{leb};
 ghost use lib.ListN.{length};
 ghost use Rattle.common.specs.Bytes.{placed};
 ghost use Rattle.writer.specs.Descriptors.{parts};
@@ -175,8 +176,7 @@ fn advance<'a>(
         &mut room,
     );
     let next = done.live;
-    let kept = next.kept;
-    let state = kept.state;
+    let state = done.live.kept.state;
     put_top(state, device::said(done, event), trace, at);
     common::put(&room, 0, PACKET, trace, at + TOP);
     One {
@@ -237,15 +237,22 @@ fn turns(events: usize, trace: usize) -> usize
     whole + 1
 }
 
-// Where the record from a place on ends.
-fn until(from: usize, len: usize) -> usize
-    requires { ⌜ from ≤ len ⌝ }
-    ensures { λ r. ⌜ r ≡ min (from + eventRoom) len ⌝ }
+// Those of the turns that have a whole record.
+fn whole(turns: usize, events: usize) -> usize
+    ensures { λ r. ⌜ r ≡ min turns (events / eventRoom) ⌝ }
 {
-    if len - from < EVENT {
-        return len;
+    let records = events / EVENT;
+    if turns <= records { turns } else { records }
+}
+
+// What stops a run behind its whole records: a last turn has a partial one.
+fn last(whole: usize, turns: usize) -> Refusal
+    ensures { λ r. ⌜ r ≡ refusal (cond (leb turns whole) 0 10) ⌝ }
+{
+    if whole < turns {
+        return Refusal::BadEvent;
     }
-    from + EVENT
+    Refusal::None
 }
 
 // The device after a run.
@@ -275,11 +282,11 @@ pub fn run(device: Device, book: &[u8], events: &[u8], trace: &mut [u8]) -> Ran
     let mut buffer = device.buffer;
     // once is enough: no step leaves a device that the next may not have
     let why = live::step_refusal(plan, &ids, &lens, live, book.len(), PACKET);
-    let n = turns(events.len(), trace.len());
+    let all = turns(events.len(), trace.len());
+    let n = whole(all, events.len());
     let mut i: usize = 0;
     while i < n {
         let from = EVENT * i;
-        let to = until(from, events.len());
         let o = single(
             why,
             plan,
@@ -287,7 +294,7 @@ pub fn run(device: Device, book: &[u8], events: &[u8], trace: &mut [u8]) -> Ran
             &lens,
             &units,
             live,
-            &events[from..to],
+            &events[from..from + EVENT],
             &mut buffer,
             book,
             trace,
@@ -301,5 +308,5 @@ pub fn run(device: Device, book: &[u8], events: &[u8], trace: &mut [u8]) -> Ran
         live = next;
         i += 1;
     }
-    ended(device, live, buffer, n, Refusal::None)
+    ended(device, live, buffer, n, last(n, all))
 }

@@ -1,7 +1,9 @@
 // Drives whole transfers: the event records of standard input go through a device of each packet size, with a book of three
-// records. A line for each event has its trace entry in hex, without the zero bytes at its end.
+// records. A line for each event has its trace entry in hex, without the zero bytes at its end. The last line of each has the
+// packet size, how many events were taken, what stopped it, and the OUT data that is left: its length, its refusal, its bytes.
 // What it prints is held to the file stdout, which model/transfers.py made from document 01.
 use control::EndpointAddress;
+use control_pipe::BUFFER;
 use device::Device;
 use libc::STDIN_FILENO;
 use libc::STDOUT_FILENO;
@@ -161,10 +163,17 @@ fn replay(packet: u8, events: &[u8]) {
     let mut trace = io::large_buffer();
     let ran = stream::run(device, &TILES, events, &mut trace);
     let why = ran.refusal;
+    let next = ran.device;
+    let mut room = [0u8; BUFFER];
+    let handed = next.data(&mut room);
+    let denied = handed.refusal;
     entries(&trace, ran.count);
     number(packet as u64);
     number(ran.count as u64);
     number(why.number() as u64);
+    number(handed.count as u64);
+    number(denied.number() as u64);
+    hex(&room, handed.count);
     io::write_all(STDOUT_FILENO, b"\n");
 }
 

@@ -1,4 +1,4 @@
--- Document 01, module 4: the writer holds the lent answer buffer and its position. An answer is appended whole, or not at all.
+-- Document 01, module 2: the writer holds the lent answer buffer and its position. An answer is appended whole, or not at all.
 use Prim.Native.Nat.{ℕ, _+_}
 use mathlib.Core.Bool.{cond}
 use mathlib.Core.List.{List, []}

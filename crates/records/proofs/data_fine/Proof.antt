@@ -27,7 +27,7 @@ returns-4 c = rw (le-leb _ _ (c .before .before .before .before .before .before 
 
 returns-5 : tie.Need-returns-5
 unfolding dataFine
-returns-5 c = rw (le-leb _ _ (c .before .before .before .before .before .before .before .before .if1 .left), le-leb _ _ (c .before .before .before .before .before .before .if2 .left), le-leb _ _ (c .before .before .before .before .if3 .left), sym (c .before .before .before .zeros .ensures) ∙ not-false _ (c .before .before .if4 .left)) (c .zeros2 .ensures)
+returns-5 c = rw (le-leb _ _ (c .before .before .before .before .before .before .before .before .if1 .left), le-leb _ _ (c .before .before .before .before .before .before .if2 .left), le-leb _ _ (c .before .before .before .before .if3 .left), sym (c .before .before .before .zeros .ensures) ∙ not-false _ (c .before .before .if4 .left)) (c .filling .ensures)
 
 pub data-fine-spec : {M : Type 1} → statement M
 data-fine-spec =
@@ -42,7 +42,6 @@ data-fine-spec =
     returns-3
     (λ c κs. search needs)
     returns-4
-    (λ c. search needs)
     (λ c. search needs)
     (λ c. search needs)
     (λ c κs. search needs)
