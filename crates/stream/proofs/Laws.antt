@@ -217,6 +217,10 @@ turn-bounds events trace i l = by (eqb (events % eventRoom) 0) refl
 pub slice-event : (events : List ℕ) (f : ℕ) → take (f + eventRoom - f) (drop f events) ≡ take eventRoom (drop f events)
 slice-event events f = let e : f + eventRoom - f ≡ eventRoom = omega arith in rw e refl
 
+-- as many whole records as two functions count
+pub whole-turns : {n all : ℕ} (events trace : ℕ) → n ≡ min all (events / eventRoom) → all ≡ turnsBy events trace → n ≡ min (turnsBy events trace) (events / eventRoom)
+whole-turns events trace e f = e ∙ ap (λ (k : ℕ). min k (events / eventRoom)) f
+
 -- a turn of a whole record
 pub whole-bounds : (events trace i : ℕ) → i < min (turnsBy events trace) (events / eventRoom)
     → (i < turnsBy events trace) × (eventRoom * i + eventRoom ≤ events) × (entryRoom * i + entryRoom ≤ trace)
@@ -338,10 +342,13 @@ module _ (book events entry : List ℕ) (d₀ : Device) (n i : ℕ) (r : Record)
       }
 
   -- behind the whole records: the turns are over, or the last of them is of a partial record
-  pub run-ended : {x : Ran} {k : ℕ} → k ≡ min n (length events / eventRoom) → k ≤ i → i ≤ k → x ≡ record { device = deviceOf r live buffer; count = k; refusal = refusal (cond (leb n k) 0 10) }
-      → Running x trace (runs n d₀ book events) entry
-  run-ended {x} {k} m h j e = by (leb n k) refl
+  pub run-ended : {x : Ran} {k : ℕ} {why : Refusal} → k ≡ min n (length events / eventRoom) → k ≤ i → i ≤ k → why ≡ refusal (cond (leb n k) 0 10)
+      → x ≡ record { device = deviceOf r live buffer; count = k; refusal = why } → Running x trace (runs n d₀ book events) entry
+  run-ended {x} {k} {why} m h j f e₀ = by (leb n k) refl
     where
+      e : x ≡ record { device = deviceOf r live buffer; count = k; refusal = refusal (cond (leb n k) 0 10) }
+      e = e₀ ∙ ap (λ (y : Refusal). record { device = deviceOf r live buffer; count = k; refusal = y }) f
+
       by : (t : Bool) → leb n k ≡ t → Running x trace (runs n d₀ book events) entry
       by true z =
           let l : n ≤ k = leb-true n k z in

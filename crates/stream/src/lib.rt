@@ -176,7 +176,8 @@ fn advance<'a>(
         &mut room,
     );
     let next = done.live;
-    let state = done.live.kept.state;
+    let kept = next.kept;
+    let state = kept.state;
     put_top(state, device::said(done, event), trace, at);
     common::put(&room, 0, PACKET, trace, at + TOP);
     One {
