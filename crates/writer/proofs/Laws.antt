@@ -99,3 +99,7 @@ ended-next number o buf = by (eqb number 0) refl o
     by false z o = rw z refl
     by true z none = rw z refl
     by true z (some b) = whole b (length b) refl z (inside buf 0 (length b)) refl
+
+-- a write, from what was filled and how it ended
+pub wrote-ended : {t : Written} {n : ℕ} {exit : List ℕ} (number : ℕ) (o : Option (List ℕ)) (buf : List ℕ) → t ≡ endedAt n number o → Next n exit number o buf 0 → Wrote t exit number o buf 0
+wrote-ended number o buf e f = record { value = e ∙ (ap (λ (n : ℕ). endedAt n number o) (f .next) ∙ ended-next number o buf); buffer = f .buffer }

@@ -129,7 +129,23 @@ pub fn position<'a>(w: Writer<'a>) -> usize
     w.at
 }
 
-// A descriptor at the start of a buffer, by a writer that lasts for the call: whoever calls this needs no proof by hand.
+// A descriptor at the start of a buffer, by a writer that lasts for the call: how many bytes it has, 0 where none is written.
+// Whoever calls this needs no proof by hand.
+pub fn fill<'r>(
+    plan: Plan,
+    ids: &'r [u16; LANGUAGES],
+    lens: &'r [u8; STRINGS],
+    units: &'r [u16; TEXT],
+    which: Which,
+    buf: &mut [u8],
+) -> usize
+    ensures { λ r. ⌜ Next r (now (buf .exit)) (lowest plan (now (ids .entry)) (now (lens .entry))) (asked (parts plan (now (ids .entry)) (now (lens .entry)) (now (units .entry))) which) (now (buf .entry)) 0 ⌝ }
+{
+    let w = append(new(buf), plan, ids, lens, units, which);
+    w.at
+}
+
+// The same, and why where none is written.
 pub fn write<'r>(
     plan: Plan,
     ids: &'r [u16; LANGUAGES],
@@ -140,6 +156,6 @@ pub fn write<'r>(
 ) -> Written
     ensures { λ r. ⌜ Wrote r (now (buf .exit)) (lowest plan (now (ids .entry)) (now (lens .entry))) (asked (parts plan (now (ids .entry)) (now (lens .entry)) (now (units .entry))) which) (now (buf .entry)) 0 ⌝ }
 {
-    let w = append(new(buf), plan, ids, lens, units, which);
-    ended(w.at, plan, ids, lens, units, which)
+    let n = fill(plan, ids, lens, units, which, buf);
+    ended(n, plan, ids, lens, units, which)
 }
