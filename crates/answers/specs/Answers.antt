@@ -11,8 +11,6 @@ use Rattle.common.specs.declared.Refusal.{Refusal}
 use Rattle.control.specs.declared.Request.{Request}
 use Rattle.record.specs.declared.Record.{Record}
 use Rattle.limits.specs.Limits.{lowest}
-use Rattle.descriptor.specs.declared.Written.{Written}
-use Rattle.descriptor.specs.declared.Written.the-variants.{Bytes as WroteBytes, Missing, Refused}
 use Rattle.writer.specs.Descriptors.{descriptorOf}
 use Rattle.control_pipe.specs.declared.Pipe.{Pipe}
 use Rattle.requests.specs.declared.Kept.{Kept}
@@ -81,7 +79,6 @@ pub record Answered (r : Verdict) (exit : List ℕ) (a : Answer) (entry : List �
   pub value : r ≡ verdictOf a
   pub buffer : exit ≡ bufferOf a entry
 
-abbrev pub writtenAs : Written → Verdict
-writtenAs (WroteBytes n) = Bytes n
-writtenAs Missing = Stall
-writtenAs (Refused why) = Stall
+-- by how many bytes a writer filled
+unfoldable pub filledAs : ℕ → Verdict
+filledAs n = cond (eqb n 0) Stall (Bytes n)

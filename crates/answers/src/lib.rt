@@ -1,7 +1,6 @@
 // The bytes that a decision answers with, written from the record into the control buffer.
 use control::Request;
 use control_pipe::BUFFER;
-use descriptor::Written;
 use plan::Plan;
 use record::LANGUAGES;
 use record::STRINGS;
@@ -12,7 +11,7 @@ use writer::Which;
 ghost use mathlib.Core.Path.{_≡_};
 ghost use mathlib.Core.List.{[], _∷_};
 ghost use Rattle.writer.specs.Descriptors.{parts};
-ghost use Rattle.answers.specs.Answers.{Answered, tell, writtenAs, described, answerOf};
+ghost use Rattle.answers.specs.Answers.{Answered, tell, filledAs, described, answerOf};
 
 // What the pipe is to do: stall, send so many bytes of the buffer or the book from a byte on, or accept.
 pub enum Verdict {
@@ -22,14 +21,14 @@ pub enum Verdict {
     Accept(Effect),
 }
 
-fn judged(w: Written) -> Verdict
-    ensures { λ r. ⌜ r ≡ writtenAs w ⌝ }
+// What is not written stalls.
+fn judged(n: usize) -> Verdict
+    ensures { λ r. ⌜ r ≡ filledAs n ⌝ }
 {
-    match w {
-        Written::Bytes(n) => Verdict::Bytes(n),
-        Written::Missing => Verdict::Stall,
-        Written::Refused(_) => Verdict::Stall,
+    if n == 0 {
+        return Verdict::Stall;
     }
+    Verdict::Bytes(n)
 }
 
 // The descriptor that the request names.
@@ -49,7 +48,7 @@ fn describe<'a>(
         index: t.index,
         language: request.index,
     };
-    judged(writer::write(plan, ids, lens, units, which, buffer))
+    judged(writer::fill(plan, ids, lens, units, which, buffer))
 }
 
 fn one(n: u8, buffer: &mut [u8; BUFFER]) -> Verdict
