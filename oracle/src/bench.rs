@@ -1,6 +1,6 @@
 //! One million events, made once and fed to both: half of them of tile reads of a full book.
 
-use crate::bus::halt_bit;
+use crate::bus::{halt_bit, polled, received};
 use crate::domain::{inside, Seen};
 use crate::drive::{Case, Source};
 use crate::event::*;
@@ -151,17 +151,7 @@ impl UsbBus for Bare<'_> {
     }
 
     fn read(&self, _: EndpointAddress, room: &mut [u8]) -> Result<usize> {
-        let event = self.event();
-        let bytes = packet(event);
-        match event[1] {
-            WOULD_BLOCK => Err(UsbError::WouldBlock),
-            FAULT => Err(UsbError::InvalidState),
-            _ if bytes.len() > room.len() => Err(UsbError::BufferOverflow),
-            _ => {
-                room[..bytes.len()].copy_from_slice(bytes);
-                Ok(bytes.len())
-            }
-        }
+        received(self.event(), room)
     }
 
     fn set_stalled(&self, address: EndpointAddress, stalled: bool) {
@@ -178,14 +168,7 @@ impl UsbBus for Bare<'_> {
     fn resume(&self) {}
 
     fn poll(&self) -> PollResult {
-        let event = self.event();
-        match event[0] {
-            NOTHING => PollResult::None,
-            RESET => PollResult::Reset,
-            SUSPEND => PollResult::Suspend,
-            RESUME => PollResult::Resume,
-            _ => PollResult::Data { ep_out: word(event, 4), ep_in_complete: word(event, 6), ep_setup: word(event, 8) },
-        }
+        polled(self.event())
     }
 }
 

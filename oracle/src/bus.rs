@@ -111,6 +111,33 @@ pub fn halt_bit(address: u8) -> u32 {
     1 << (address & 15 | (address & 0x80) >> 3)
 }
 
+/// What an event is to the crate.
+#[inline]
+pub fn polled(event: &Event) -> PollResult {
+    match event[0] {
+        NOTHING => PollResult::None,
+        RESET => PollResult::Reset,
+        SUSPEND => PollResult::Suspend,
+        RESUME => PollResult::Resume,
+        _ => PollResult::Data { ep_out: word(event, 4), ep_in_complete: word(event, 6), ep_setup: word(event, 8) },
+    }
+}
+
+/// What the one read of an event gives.
+#[inline]
+pub fn received(event: &Event, room: &mut [u8]) -> Result<usize> {
+    let bytes = packet(event);
+    match event[1] {
+        WOULD_BLOCK => Err(UsbError::WouldBlock),
+        FAULT => Err(UsbError::InvalidState),
+        _ if bytes.len() > room.len() => Err(UsbError::BufferOverflow),
+        _ => {
+            room[..bytes.len()].copy_from_slice(bytes);
+            Ok(bytes.len())
+        }
+    }
+}
+
 pub struct Bus<'a, const QUIRK: bool>(pub &'a Wire);
 
 impl<const QUIRK: bool> UsbBus for Bus<'_, QUIRK> {
@@ -158,20 +185,11 @@ impl<const QUIRK: bool> UsbBus for Bus<'_, QUIRK> {
         let event = self.0.event();
         self.0.reads.set(self.0.reads.get() + 1);
         assert!(self.0.reads.get() == 1, "a second read in one step");
-        match event[1] {
-            WOULD_BLOCK => return Err(UsbError::WouldBlock),
-            FAULT => return Err(UsbError::InvalidState),
-            _ => {}
-        }
-        let bytes = packet(event);
-        if bytes.len() > room.len() {
-            return Err(UsbError::BufferOverflow);
-        }
-        room[..bytes.len()].copy_from_slice(bytes);
-        if event[8] & 1 != 0 && bytes.len() == 8 {
+        let count = received(event, room)?;
+        if event[8] & 1 != 0 && count == 8 {
             self.0.held.set(None);
         }
-        Ok(bytes.len())
+        Ok(count)
     }
 
     fn set_stalled(&self, address: EndpointAddress, stalled: bool) {
@@ -203,13 +221,6 @@ impl<const QUIRK: bool> UsbBus for Bus<'_, QUIRK> {
 
     #[inline]
     fn poll(&self) -> PollResult {
-        let event = self.0.event();
-        match event[0] {
-            NOTHING => PollResult::None,
-            RESET => PollResult::Reset,
-            SUSPEND => PollResult::Suspend,
-            RESUME => PollResult::Resume,
-            _ => PollResult::Data { ep_out: word(event, 4), ep_in_complete: word(event, 6), ep_setup: word(event, 8) },
-        }
+        polled(self.0.event())
     }
 }
