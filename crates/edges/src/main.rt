@@ -1,4 +1,4 @@
-// A record at every limit: one thing is changed, and the number of the refusal is told.
+// A record at every limit: one of its numbers runs, and where the refusal becomes another, the number and the refusal are told.
 // What it prints is held to the file stdout, which was written from document 01.
 use control::EndpointAddress;
 use libc::STDOUT_FILENO;
@@ -7,239 +7,184 @@ use plan::Endpoint;
 use plan::Interface;
 use plan::Kind;
 use plan::Plan;
-use record::LANGUAGES;
 use record::Name;
 use record::Record;
-use record::STRINGS;
+ghost use Prim.Native.Nat.{_<_};
 
-// What a sweep changes, to each number of a byte.
-pub enum Change {
-    Packet,
-    Power,
-    Address,
-    Size,
-    Owner,
-}
+// The places of a case's numbers; a step leads from an endpoint's address, or from a language, to the next.
+const PACKET: usize = 0;
 
-// What a plan has 0 and more of.
-pub enum Thing {
-    Interfaces,
-    Endpoints,
-}
+const POWER: usize = 1;
 
-// How many of the tries were not refused, and the first and the last of them.
-pub struct Tally {
-    pub count: u64,
-    pub first: u64,
-    pub last: u64,
-}
+const INTERFACES: usize = 2;
 
-fn basics() -> Basics {
-    Basics {
-        packet: 8,
+const ENDPOINTS: usize = 3;
+
+const ADDRESS: usize = 4;
+
+const SIZE: usize = 5;
+
+const OWNER: usize = 6;
+
+const LANGUAGES: usize = 7;
+
+const STEP: usize = 8;
+
+const UNITS: usize = 9;
+
+const NUMBERS: usize = 10;
+
+fn bare(packet: u8, power: u8) -> Plan {
+    Plan::new(Basics {
+        packet,
         class: 0,
         subclass: 0,
         protocol: 0,
         vendor: 0x1234,
         product: 0x0138,
         release: 0x0100,
-        power: 50,
+        power,
         powered: false,
         wakeup: false,
         quirk: false,
-    }
+    })
 }
 
-fn interface() -> Interface {
-    Interface {
+fn with_interfaces(plan: Plan, n: u8) -> Plan {
+    let x = Interface {
         class: 0xff,
         subclass: 0,
         protocol: 0,
+    };
+    let mut p = plan;
+    let mut i: u8 = 0;
+    while i < n {
+        p = p.with_interface(x);
+        i += 1;
     }
+    p
 }
 
-fn endpoint() -> Endpoint {
-    Endpoint {
-        address: EndpointAddress(0x81),
+// So many endpoints, a step from one address to the next.
+fn with_endpoints(plan: Plan, first: Endpoint, n: u8, step: u8) -> Plan {
+    let mut p = plan;
+    let mut e = first;
+    let mut i: u8 = 0;
+    while i < n {
+        p = p.with_endpoint(e);
+        let a = EndpointAddress(e.address.0 % 128 + step % 128);
+        e.address = a;
+        i += 1;
+    }
+    p
+}
+
+// So many languages, a step from one to the next.
+fn with_languages(plan: Plan, n: u8, step: u16) -> Record {
+    let mut r = Record::new(plan);
+    let mut id: u16 = 0;
+    let mut i: u8 = 0;
+    while i < n {
+        r = r.with_language(id);
+        id = id % 256 + step % 256;
+        i += 1;
+    }
+    r
+}
+
+fn planned(c: [u8; NUMBERS]) -> Plan {
+    let p = with_interfaces(bare(c[PACKET], c[POWER]), c[INTERFACES]);
+    let first = Endpoint {
+        address: EndpointAddress(c[ADDRESS]),
         kind: Kind::Bulk,
-        size: 64,
+        size: c[SIZE],
         interval: 0,
-        interface: 0,
+        interface: c[OWNER],
+    };
+    with_endpoints(p, first, c[ENDPOINTS], c[STEP])
+}
+
+// A string of n units; of 0, none.
+fn with_units(r: Record, text: &[u16], n: usize) -> Record {
+    if n == 0 {
+        return r;
     }
+    if text.len() < n {
+        return r;
+    }
+    r.with_string(Name::Serial, &text[..n])
 }
 
-// A number and a space.
-fn tell(n: u64) {
-    io::print_decimal(STDOUT_FILENO, n);
-    io::write_all(STDOUT_FILENO, b" ");
-}
-
-fn end(name: &[u8]) {
-    io::write_all(STDOUT_FILENO, name);
-    io::write_all(STDOUT_FILENO, b"\n");
-}
-
-fn planned(plan: Plan) -> u8 {
-    limits::broken(plan, &[0u16; LANGUAGES], &[0u8; STRINGS]).number()
-}
-
-fn number(r: Record) -> u8 {
+// The number that refuses the record of a case.
+fn number(c: [u8; NUMBERS]) -> u8 {
+    let spoken = with_languages(planned(c), c[LANGUAGES], c[STEP] as u16);
+    let r = with_units(spoken, &[0x20u16; 32], c[UNITS] as usize);
     let plan = r.plan;
     limits::broken(plan, &r.ids, &r.lens).number()
 }
 
-impl Tally {
-    fn with(self, n: u64, ok: bool) -> Tally {
-        let mut next = self;
-        if !ok {
-            return next;
-        }
-        if next.count == 0 {
-            next.first = n;
-        }
-        next.last = n;
-        if next.count < 1000 {
-            next.count = next.count + 1;
-        }
-        next
+// Says where an answer is another than the last one, and what it is.
+fn tell(n: u16, last: u8, answer: u8) -> u8 {
+    if answer != last {
+        io::print_decimal(STDOUT_FILENO, n as u64);
+        io::write_all(STDOUT_FILENO, b":");
+        io::print_decimal(STDOUT_FILENO, answer as u64);
+        io::write_all(STDOUT_FILENO, b" ");
     }
+    answer
 }
 
-// The plan of one interface and one endpoint, with one thing changed.
-fn swept(what: Change, n: u8) -> Plan {
-    let mut b = basics();
-    let mut e = endpoint();
-    let a = EndpointAddress(n);
-    match what {
-        Change::Packet => b.packet = n,
-        Change::Power => b.power = n,
-        Change::Address => e.address = a,
-        Change::Size => e.size = n,
-        Change::Owner => e.interface = n,
-    }
-    Plan::new(b).with_interface(interface()).with_endpoint(e)
-}
-
-// Every number of a byte: how many are taken, and the first and the last.
-fn sweep(name: &[u8], what: Change) {
-    let mut t = Tally {
-        count: 0,
-        first: 0,
-        last: 0,
-    };
-    let mut n: u16 = 0;
-    while n < 256 {
-        t = t.with(n as u64, planned(swept(what, (n % 256) as u8)) == 0);
+// A number of a case runs from `low` to below `end`.
+fn row(name: &[u8], what: usize, low: u16, end: u16, case: [u8; NUMBERS])
+    requires { ⌜ what < 10 ⌝ }
+{
+    let mut c = case;
+    let mut last: u8 = 255;
+    let mut n = low;
+    while n < end {
+        c[what] = (n % 256) as u8;
+        last = tell(n, last, number(c));
         n += 1;
     }
-    tell(t.count);
-    tell(t.first);
-    tell(t.last);
-    end(name);
+    io::write_all(STDOUT_FILENO, name);
 }
 
-fn grow(what: Thing, p: Plan, n: u8) -> Plan {
-    match what {
-        Thing::Interfaces => p.with_interface(interface()),
-        Thing::Endpoints => {
-            let mut e = endpoint();
-            let a = EndpointAddress(n % 15 + 1);
-            e.address = a;
-            p.with_endpoint(e)
-        }
-    }
+// One endpoint, one language with a string of one unit: nothing refuses it.
+const GOOD: [u8; NUMBERS] = [8, 50, 1, 1, 0x81, 64, 0, 1, 1, 1];
+
+// The same with no string; with a step of 0; and with all three rules broken.
+const MUTE: [u8; NUMBERS] = [8, 50, 1, 1, 0x81, 64, 0, 1, 1, 0];
+
+const STILL: [u8; NUMBERS] = [8, 50, 1, 1, 0x01, 64, 0, 1, 0, 1];
+
+const BAD: [u8; NUMBERS] = [7, 251, 0, 0, 0x81, 64, 0, 0, 1, 1];
+
+// Refusals 1 and 2.
+fn plans() {
+    row(b"packet sizes\n", PACKET, 0, 256, GOOD);
+    row(b"powers\n", POWER, 0, 256, GOOD);
+    row(b"interfaces\n", INTERFACES, 0, 6, MUTE);
+    row(b"endpoints\n", ENDPOINTS, 0, 10, GOOD);
+    row(b"packet sizes, all rules broken\n", PACKET, 0, 256, BAD);
 }
 
-// The refusals of a plan as it is, with one thing more, and so on, so many in all.
-fn counts(name: &[u8], what: Thing, plan: Plan, most: u8) {
-    let mut p = plan;
-    let mut i: u8 = 0;
-    while i < most {
-        tell(planned(p) as u64);
-        p = grow(what, p, i);
-        i += 1;
-    }
-    end(name);
+fn endpoints() {
+    row(b"endpoint addresses\n", ADDRESS, 0, 256, GOOD);
+    row(b"endpoint sizes\n", SIZE, 0, 256, GOOD);
+    row(b"interfaces of an endpoint\n", OWNER, 0, 256, GOOD);
+    row(b"endpoints of one address\n", ENDPOINTS, 0, 3, STILL);
 }
 
-// The refusals of a record with no language, with one, and so on, so many in all.
-fn languages(name: &[u8], most: u16) {
-    let mut r = Record::new(one());
-    let mut i: u16 = 0;
-    while i < most {
-        tell(number(r) as u64);
-        r = r.with_language(i);
-        i += 1;
-    }
-    end(name);
-}
-
-// One answer.
-fn told(name: &[u8], number: u8) {
-    tell(number as u64);
-    end(name);
-}
-
-fn bare() -> Plan {
-    Plan::new(basics())
-}
-
-fn one() -> Plan {
-    bare().with_interface(interface())
-}
-
-// A string of 31 units, and one of 32.
-fn lengths() {
-    let r = Record::new(one()).with_language(0x0409);
-    told(
-        b"31 units",
-        number(r.with_string(Name::Serial, &[0x20u16; 31])),
-    );
-    told(
-        b"32 units",
-        number(r.with_string(Name::Serial, &[0x20u16; 32])),
-    );
-}
-
-fn homeless(name: &[u8], plan: Plan) {
-    told(
-        name,
-        number(Record::new(plan).with_string(Name::Serial, &[0x20u16])),
-    );
-}
-
-fn twice() {
-    let p = one().with_endpoint(endpoint()).with_endpoint(endpoint());
-    told(b"an address twice", planned(p));
-    let r = Record::new(one())
-        .with_language(0x0409)
-        .with_language(0x0409);
-    told(b"a language twice", number(r));
-}
-
-// A plan that breaks rules 1 and 2.
-fn worst() -> Plan {
-    let mut b = basics();
-    b.packet = 7;
-    b.power = 251;
-    Plan::new(b)
-}
-
-fn sweeps() {
-    sweep(b"packet sizes", Change::Packet);
-    sweep(b"powers", Change::Power);
-    sweep(b"endpoint addresses", Change::Address);
-    sweep(b"endpoint sizes", Change::Size);
-    sweep(b"interfaces of an endpoint", Change::Owner);
+// Refusal 3.
+fn languages() {
+    row(b"languages\n", LANGUAGES, 0, 6, MUTE);
+    row(b"languages, one with a string\n", LANGUAGES, 0, 6, GOOD);
+    row(b"languages of one number\n", LANGUAGES, 0, 3, STILL);
+    row(b"units of a string\n", UNITS, 0, 33, GOOD);
 }
 
 fn main() {
-    sweeps();
-    counts(b"interfaces", Thing::Interfaces, bare(), 6);
-    counts(b"endpoints", Thing::Endpoints, one(), 10);
-    languages(b"languages", 6);
-    lengths();
-    homeless(b"no language of the string", one());
-    twice();
-    homeless(b"all three rules, the lowest", worst());
+    plans();
+    endpoints();
+    languages();
 }

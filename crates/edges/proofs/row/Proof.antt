@@ -1,13 +1,13 @@
-use Prim.Native.Nat.{_-_}
 use borrow.Author.Needs.{needs}
-use Rattle.edges.proofs.languages.Statement.{statement}
-use Rattle.edges.proofs.languages.Tie as tie
+use Prim.Native.Nat.{_-_}
+use Rattle.edges.proofs.row.Statement.{statement}
+use Rattle.edges.proofs.row.Tie as tie
 
 abbrev Inv-loop : tie.InvT-loop
-Inv-loop name most r₀ i₀ r i = Unit {0}
+Inv-loop name what low end c₀ last₀ n₀ c last n = Unit {0}
 
 abbrev μ-loop : tie.MeasureT-loop
-μ-loop name most r₀ i₀ r i = most - i
+μ-loop name what low end c₀ last₀ n₀ c last n = end - n
 
 loop-holds : tie.Need-loop-holds Inv-loop μ-loop
 loop-holds c = tt
@@ -15,16 +15,14 @@ loop-holds c = tt
 loop-again : tie.Need-loop-again Inv-loop μ-loop
 loop-again c = tt
 
-pub languages-spec : {M : Type 1} → statement M
-languages-spec =
+pub row-spec : {M : Type 1} → statement M
+row-spec =
     tie.close
     (tie.spec
     Inv-loop
     μ-loop
-    (λ c κs. search needs)
-    (λ c κs. search needs)
     loop-holds
-    (λ c κs. search needs)
+    (λ c. search needs)
     (λ c. search needs)
     (λ c κs. search needs)
     (λ c κs. search needs)

@@ -1,13 +1,13 @@
-use Prim.Native.Nat.{_-_}
 use borrow.Author.Needs.{needs}
-use Rattle.edges.proofs.counts.Statement.{statement}
-use Rattle.edges.proofs.counts.Tie as tie
+use Prim.Native.Nat.{_-_}
+use Rattle.edges.proofs.with_languages.Statement.{statement}
+use Rattle.edges.proofs.with_languages.Tie as tie
 
 abbrev Inv-loop : tie.InvT-loop
-Inv-loop name what most p₀ i₀ p i = Unit {0}
+Inv-loop n step r₀ id₀ i₀ r id i = Unit {0}
 
 abbrev μ-loop : tie.MeasureT-loop
-μ-loop name what most p₀ i₀ p i = most - i
+μ-loop n step r₀ id₀ i₀ r id i = n - i
 
 loop-holds : tie.Need-loop-holds Inv-loop μ-loop
 loop-holds c = tt
@@ -15,19 +15,17 @@ loop-holds c = tt
 loop-again : tie.Need-loop-again Inv-loop μ-loop
 loop-again c = tt
 
-pub counts-spec : {M : Type 1} → statement M
-counts-spec =
+pub with-languages-spec : {M : Type 1} → statement M
+with-languages-spec =
     tie.close
     (tie.spec
     Inv-loop
     μ-loop
+    (λ c κs. search needs)
     loop-holds
     (λ c κs. search needs)
     (λ c. search needs)
-    (λ c κs. search needs)
-    (λ c κs. search needs)
     (λ c. search needs)
     (λ c. search needs)
     loop-again
-    (λ c κs. search needs)
     (λ c. search needs))
