@@ -73,71 +73,49 @@ const RESERVED: [u8; 8] = [0x64, 0, 0, 0, 0, 0, 0, 0];
 
 const OTHER: [u8; 8] = [0xc3, 0, 0, 0, 0, 0, 0, 0];
 
+// In note 3, seven bytes and nine.
 fn setups() {
     setup(1, &FIRST);
     setup(2, &RESERVED);
     setup(2, &OTHER);
-}
-
-// Seven bytes, and nine.
-fn lengths() {
     setup(3, &FIRST[..7]);
     setup(3, &LONGER);
 }
 
-// Which descriptor is asked for.
-enum Asked {
-    Device,
-    Configuration,
-    Text(u8),
-}
-
-fn ask(what: Asked, buf: &mut [u8], at: usize) -> Written {
+// Note 4 asks for the device descriptor, note 5 for the configuration, any other for a string.
+fn ask(note: u64, string: u8, buf: &mut [u8], at: usize) -> Written {
     let r = pan();
     let plan = r.plan;
-    match what {
-        Asked::Device => descriptor::device(plan, &r.ids, &r.lens, buf, at),
-        Asked::Configuration => configuration::write(plan, &r.ids, &r.lens, buf, at),
-        Asked::Text(n) => strings::write(plan, &r.ids, &r.lens, &r.units, n, 0x0409, buf, at),
+    match note {
+        4 => descriptor::device(plan, &r.ids, &r.lens, buf, at),
+        5 => configuration::write(plan, &r.ids, &r.lens, buf, at),
+        _ => strings::write(plan, &r.ids, &r.lens, &r.units, string, 0x0409, buf, at),
     }
 }
 
-// Notes 4 to 6: the bytes of a descriptor.
-fn bytes(note: u64, what: Asked) {
-    let mut buf = [0u8; 128];
+// Notes 4 to 6: how many bytes a descriptor has, and what a room of 28 bytes EEh holds then.
+fn written(note: u64, string: u8, at: usize) {
+    let mut room = [0xeeu8; 28];
     say::number(note);
-    let answer = ask(what, &mut buf, 0);
+    let answer = ask(note, string, &mut room, at);
     match answer {
-        Written::Bytes(n) => say::hex(&buf, n),
+        Written::Bytes(n) => say::next(n as u64),
         Written::Missing => say::word(b"missing"),
         Written::Refused(why) => say::refusal(why),
     }
+    say::hex(&room);
     say::line();
 }
 
-// The language list at a place of ten bytes: what it says, and what the ten bytes are then.
-fn language_list(at: usize) {
-    let mut buf = [0xeeu8; 10];
-    let answer = ask(Asked::Text(0), &mut buf, at);
-    match answer {
-        Written::Bytes(n) => say::number(n as u64),
-        Written::Missing => say::word(b"missing"),
-        Written::Refused(why) => say::refusal(why),
-    }
-    say::hex(&buf, 10);
-    say::line();
-}
-
+// Beside the notes: strings that are not there, and the language list at the last place that holds it, and behind it.
 fn main() {
     setups();
-    lengths();
-    bytes(4, Asked::Device);
-    bytes(5, Asked::Configuration);
-    bytes(6, Asked::Text(1));
-    bytes(6, Asked::Text(0));
-    bytes(0, Asked::Text(3));
-    bytes(0, Asked::Text(4));
-    language_list(0);
-    language_list(6);
-    language_list(7);
+    written(4, 0, 0);
+    written(5, 0, 0);
+    written(6, 1, 0);
+    written(6, 0, 0);
+    written(0, 3, 0);
+    written(0, 4, 0);
+    written(0, 0, 24);
+    written(0, 0, 25);
 }

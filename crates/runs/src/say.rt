@@ -31,19 +31,12 @@ pub(crate) fn refusal(why: Refusal) {
     next(why.number() as u64);
 }
 
-// The first n bytes.
-pub(crate) fn hex(buf: &[u8], n: usize) {
+pub(crate) fn hex(buf: &[u8]) {
     let mut i: usize = 0;
-    while i < n {
-        byte(buf, i);
-        i += 1;
-    }
-}
-
-fn byte(buf: &[u8], i: usize) {
-    if i < buf.len() {
+    while i < buf.len() {
         io::write_all(STDOUT_FILENO, b" ");
         io::print_hex(STDOUT_FILENO, wide(buf[i]), 2);
+        i += 1;
     }
 }
 
@@ -51,41 +44,40 @@ fn wide(b: u8) -> u64 {
     b as u64
 }
 
+// Direction, type and recipient, by a letter each, then the numbers.
 pub(crate) fn request(r: Request) {
     let direction = r.direction;
-    direct(direction);
     let kind = r.kind;
-    typed(kind);
     let recipient = r.recipient;
-    receive(recipient);
+    word(&[direct(direction), typed(kind), receive(recipient)]);
     next(r.request as u64);
     next(r.value as u64);
     next(r.index as u64);
     next(r.length as u64);
 }
 
-fn direct(d: Direction) {
+fn direct(d: Direction) -> u8 {
     match d {
-        Direction::Out => word(b"out"),
-        Direction::In => word(b"in"),
+        Direction::Out => b'o',
+        Direction::In => b'i',
     }
 }
 
-fn typed(t: RequestType) {
+fn typed(t: RequestType) -> u8 {
     match t {
-        RequestType::Standard => word(b"standard"),
-        RequestType::Class => word(b"class"),
-        RequestType::Vendor => word(b"vendor"),
-        RequestType::Reserved => word(b"reserved"),
+        RequestType::Standard => b's',
+        RequestType::Class => b'c',
+        RequestType::Vendor => b'v',
+        RequestType::Reserved => b'r',
     }
 }
 
-fn receive(r: Recipient) {
+fn receive(r: Recipient) -> u8 {
     match r {
-        Recipient::Device => word(b"device"),
-        Recipient::Interface => word(b"interface"),
-        Recipient::Endpoint => word(b"endpoint"),
-        Recipient::Other => word(b"other"),
-        Recipient::Reserved => word(b"reserved"),
+        Recipient::Device => b'd',
+        Recipient::Interface => b'i',
+        Recipient::Endpoint => b'e',
+        Recipient::Other => b'o',
+        Recipient::Reserved => b'r',
     }
 }
