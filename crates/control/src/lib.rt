@@ -1,8 +1,9 @@
 // A control request read from a SETUP packet, and the three kinds of number that a request can name.
 use common::Refusal;
 ghost use mathlib.Core.Path.{_≡_};
-ghost use Prim.Native.Nat.{_+_, _*_};
-ghost use Rattle.control.specs.Setup.{directionOf, typeOf, recipientOf, parsed, typeIndexOf};
+ghost use Prim.Native.Nat.{_+_, _*_, _<_};
+ghost use lib.ListN.{length};
+ghost use Rattle.control.specs.Setup.{directionOf, typeOf, recipientOf, wordAt, parsed, typeIndexOf};
 
 // The address of a device on the bus.
 pub struct BusAddress(pub u8);
@@ -96,6 +97,14 @@ pub fn word(first: u8, second: u8) -> u16
     first as u16 + 256 * (second as u16)
 }
 
+// The word at a place of a packet.
+fn word_at(packet: &[u8], at: usize) -> u16
+    requires { ⌜ at + 1 < length (now packet) ⌝ }
+    ensures { λ r. ⌜ r ≡ wordAt (now (packet .entry)) at ⌝ }
+{
+    word(packet[at], packet[at + 1])
+}
+
 impl Request {
     pub const GET_STATUS: u8 = 0;
 
@@ -136,9 +145,9 @@ impl Request {
             kind: type_of(b),
             recipient: recipient_of(b),
             request: packet[1],
-            value: word(packet[2], packet[3]),
-            index: word(packet[4], packet[5]),
-            length: word(packet[6], packet[7]),
+            value: word_at(packet, 2),
+            index: word_at(packet, 4),
+            length: word_at(packet, 6),
         })
     }
 

@@ -1,3 +1,8 @@
+use mathlib.Core.Path.{_≡_}
+use mathlib.Core.Bool.{true, false}
+use denote.Ref.{now}
+use lib.Dec.{eqb}
+use lib.ListN.{length}
 use borrow.Author.Needs.{needs}
 use borrow.Author.Tests.{eq-eqb, ne-eqb}
 use Rattle.control.specs.Setup.{parsed}
@@ -6,11 +11,16 @@ use Rattle.control.proofs.Request.parse.Tie as tie
 
 returns : tie.Need-returns
 unfolding parsed
-returns c = simp (ne-eqb, c .if1 .taken)
+returns c = let e : eqb (length (now (c .before .before .args .packet))) 8 ≡ false = ne-eqb _ _ (c .if1 .taken) in rw e
 
 returns-2 : tie.Need-returns-2
 unfolding parsed
-returns-2 c = simp (eq-eqb, c .before .before .before .before .before .before .before .before .before .before .before .before .before .before .if1 .left, c .before .before .before .before .before .before .before .before .before .before .before .before .direction-of .ensures, c .before .before .before .before .before .before .before .before .before .before .before .type-of .ensures, c .before .before .before .before .before .before .before .before .before .before .recipient-of .ensures, c .before .before .before .before .before .before .word .ensures, c .before .before .before .word2 .ensures, c .word3 .ensures)
+returns-2 c =
+    let w = c .before .before in
+    let k = w .before .before in
+    let s = k .before .before .before .before in
+    let e : eqb (length (now (s .before .before .args .packet))) 8 ≡ true = eq-eqb _ _ (s .if1 .left) in
+    rw (e, k .before .before .direction-of .ensures, k .before .type-of .ensures, k .recipient-of .ensures, w .word-at .ensures, c .before .word-at2 .ensures, c .word-at3 .ensures)
 
 pub parse-spec : {M : Type 1} → statement M
 parse-spec =
@@ -22,13 +32,7 @@ parse-spec =
     (λ c κs. search needs)
     (λ c κs. search needs)
     (λ c. search needs)
-    (λ c. search needs)
-    (λ c. search needs)
     (λ c κs. search needs)
-    (λ c. search needs)
-    (λ c. search needs)
     (λ c κs. search needs)
-    (λ c. search needs)
-    (λ c. search needs)
     (λ c κs. search needs)
     returns-2)
