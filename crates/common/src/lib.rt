@@ -56,14 +56,6 @@ pub fn within(len: usize, at: usize, n: usize) -> bool
     n <= len - at
 }
 
-// The same copy, of parts that are known to lie inside.
-fn copy_part(src: &[u8], from: usize, n: usize, dst: &mut [u8], at: usize)
-    requires { ⌜ (from + n ≤ length (now src)) × (at + n ≤ length (now dst)) ⌝ }
-    ensures { λ r. ⌜ now (dst .exit) ≡ placed (now (dst .entry)) at (part from n (now (src .entry))) ⌝ }
-{
-    bytes::copy(&src[from..from + n], &mut dst[at..]);
-}
-
 // The n bytes of src from `from` on go to place `at` of dst; where either part runs past its end, nothing does.
 pub fn put(src: &[u8], from: usize, n: usize, dst: &mut [u8], at: usize)
     ensures { λ r. ⌜ now (dst .exit) ≡ stored (now (dst .entry)) at (now (src .entry)) from n ⌝ }
@@ -74,7 +66,7 @@ pub fn put(src: &[u8], from: usize, n: usize, dst: &mut [u8], at: usize)
     if !within(dst.len(), at, n) {
         return;
     }
-    copy_part(src, from, n, dst, at);
+    bytes::copy(&src[from..from + n], &mut dst[at..]);
 }
 
 // Every byte becomes 0.
