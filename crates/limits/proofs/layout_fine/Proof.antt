@@ -1,9 +1,8 @@
 use mathlib.Core.Path.{_≡_}
-use mathlib.Core.Bool.{true}
+use mathlib.Core.Bool.{true, false}
 use lib.Dec.{leb}
-use borrow.Author.Tests.{le-leb}
+use borrow.Author.Tests.{le-leb, lt-leb}
 use Rattle.plan.specs.Sizes.{interfaceRoom, endpointRoom}
-use Rattle.common.proofs.Laws.{tests}
 use Rattle.limits.specs.Limits.{layoutFine}
 use borrow.Author.Needs.{needs}
 use Rattle.limits.proofs.layout_fine.Statement.{statement}
@@ -11,19 +10,37 @@ use Rattle.limits.proofs.layout_fine.Tie as tie
 
 returns : tie.Need-returns
 unfolding layoutFine
-returns c = search (needs, tests)
+returns c =
+    let p = c .before .before .before .args .plan in
+    let w : leb (p .basics .power) 250 ≡ false = lt-leb _ _ (c .if1 .taken) in
+    rw w
 
 returns-2 : tie.Need-returns-2
 unfolding layoutFine
-returns-2 c = search (needs, tests)
+returns-2 c =
+    let p = c .before .before .before .before .args .plan in
+    let w : leb (p .basics .power) 250 ≡ true = le-leb _ _ (c .before .if1 .left) in
+    let l : leb 1 (p .interfaces .count) ≡ false = lt-leb _ _ (c .if2 .taken) in
+    rw (w, l)
 
 returns-3 : tie.Need-returns-3
 unfolding layoutFine
-returns-3 c = search (needs, tests)
+returns-3 c =
+    let p = c .before .before .before .before .before .args .plan in
+    let w : leb (p .basics .power) 250 ≡ true = le-leb _ _ (c .before .before .if1 .left) in
+    let l : leb 1 (p .interfaces .count) ≡ true = le-leb _ _ (c .before .if2 .left) in
+    let h : leb (p .interfaces .count) interfaceRoom ≡ false = lt-leb _ _ (c .if3 .taken) in
+    rw (w, l, h)
 
 returns-4 : tie.Need-returns-4
 unfolding layoutFine
-returns-4 c = search (needs, tests)
+returns-4 c =
+    let p = c .before .before .before .before .before .before .args .plan in
+    let w : leb (p .basics .power) 250 ≡ true = le-leb _ _ (c .before .before .before .if1 .left) in
+    let l : leb 1 (p .interfaces .count) ≡ true = le-leb _ _ (c .before .before .if2 .left) in
+    let h : leb (p .interfaces .count) interfaceRoom ≡ true = le-leb _ _ (c .before .if3 .left) in
+    let e : leb (p .endpoints .count) endpointRoom ≡ false = lt-leb _ _ (c .if4 .taken) in
+    rw (w, l, h, e)
 
 returns-5 : tie.Need-returns-5
 unfolding layoutFine
