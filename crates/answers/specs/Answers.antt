@@ -79,6 +79,6 @@ pub record Answered (r : Verdict) (exit : List ℕ) (a : Answer) (entry : List �
   pub value : r ≡ verdictOf a
   pub buffer : exit ≡ bufferOf a entry
 
--- by how many bytes a writer filled
+-- of so many bytes that a writer filled: none stalls
 unfoldable pub filledAs : ℕ → Verdict
 filledAs n = cond (eqb n 0) Stall (Bytes n)

@@ -55,8 +55,8 @@ pub enum Source {
     Book,
 }
 
-// The IN answer: `len` bytes of its source from `start` on, of which `sent` are sent. With the source last no two fields share
-// a word of eight bytes, which a compiler would pack and unpack at every copy.
+// The IN answer: `len` bytes of its source from `start` on, of which `sent` are sent. The source stands last: before `start` the
+// two are packed into one number and unpacked at every copy.
 pub struct Reply {
     pub start: u32,
     pub len: u32,

@@ -203,21 +203,15 @@ trace-turn entry trace exit x i l e f n h =
 
 -- ---- the bounds of a turn
 
-pub turn-bounds : (events trace i : ℕ) → i < turnsBy events trace → (eventRoom * i ≤ events) × (entryRoom * i + entryRoom ≤ trace)
+-- a turn has room for its entry
+turn-room : (events trace i : ℕ) → i < turnsBy events trace → entryRoom * i + entryRoom ≤ trace
 unfolding turnsBy
-turn-bounds events trace i l = by (eqb (events % eventRoom) 0) refl
-  where
-    by : (t : Bool) → eqb (events % eventRoom) 0 ≡ t → (eventRoom * i ≤ events) × (entryRoom * i + entryRoom ≤ trace)
-    by true z = let k : i < min (trace / entryRoom) (events / eventRoom + 0) = rw z at l in (omega (arith, k), omega (arith, k))
-    by false z =
-        let k : i < min (trace / entryRoom) (events / eventRoom + 1) = rw z at l in
-        let n : events % eventRoom ≡ 0 → ⊥ = eqb-false (events % eventRoom) 0 z in
-        (omega (arith, k), omega (arith, k))
+turn-room events trace i l = omega (arith, l)
 
 pub slice-event : (events : List ℕ) (f : ℕ) → take (f + eventRoom - f) (drop f events) ≡ take eventRoom (drop f events)
 slice-event events f = let e : f + eventRoom - f ≡ eventRoom = omega arith in rw e refl
 
--- as many whole records as two functions count
+-- how many turns have a whole record, from what the two functions that count ensure
 pub whole-turns : {n all : ℕ} (events trace : ℕ) → n ≡ min all (events / eventRoom) → all ≡ turnsBy events trace → n ≡ min (turnsBy events trace) (events / eventRoom)
 whole-turns events trace e f = e ∙ ap (λ (k : ℕ). min k (events / eventRoom)) f
 
@@ -226,7 +220,7 @@ pub whole-bounds : (events trace i : ℕ) → i < min (turnsBy events trace) (ev
     → (i < turnsBy events trace) × (eventRoom * i + eventRoom ≤ events) × (entryRoom * i + entryRoom ≤ trace)
 whole-bounds events trace i l =
     let k : i < turnsBy events trace = omega (arith, l) in
-    (k, omega (arith, l), turn-bounds events trace i k .1)
+    (k, omega (arith, l), turn-room events trace i k)
 
 -- a partial record is refused with 10
 partial : (d : Device) (book s : List ℕ) → (length s ≡ eventRoom → ⊥) → turn d book s .number ≡ 10
@@ -332,49 +326,46 @@ module _ (book events entry : List ℕ) (d₀ : Device) (n i : ℕ) (r : Record)
         let g = turn-device (deviceOf r live buffer) here fine (t .live) (t .held) in
         e ∙ (ap refusal (f .0) ∙ sym (ap refusal (ap (λ (d : Device). refusedBy d book clean) g ∙ f .1)))
 
-  run-over : {x : Ran} → n ≤ i → i ≤ n → x ≡ record { device = deviceOf r live buffer; count = n; refusal = None } → Running x trace (runs n d₀ book events) entry
-  run-over {x} h j e =
-      let w = run-end book (runs n d₀ book events) (deviceOf r live buffer) n i (take (entryRoom * i) trace) events h whole in
-      let c : n ≡ 0 + i = omega (arith, h, j) in
+  -- a run that stops here, with this number
+  run-closed : {x : Ran} {k : ℕ} (number : ℕ) → runs n d₀ book events ≡ longer (take (entryRoom * i) trace) i (stopped (deviceOf r live buffer) number) → k ≡ i
+      → x ≡ record { device = deviceOf r live buffer; count = k; refusal = refusal number } → Running x trace (runs n d₀ book events) entry
+  run-closed {x} {k} number w c e =
       record {
-        value = e ∙ (ap (λ (c : ℕ). record { device = deviceOf r live buffer; count = c; refusal = refusal 0 }) c ∙ ap ranOf (sym w));
+        value = e ∙ (ap (λ (a : ℕ). record { device = deviceOf r live buffer; count = a; refusal = refusal number }) (c ∙ sym (zero-add i)) ∙ ap ranOf (sym w));
         trace = front₀ ∙ ap (λ (y : List ℕ). placed entry 0 y) (sym (append-nil (take (entryRoom * i) trace)) ∙ ap (λ (y : Run). y .bytes) (sym w));
       }
 
   -- behind the whole records: the turns are over, or the last of them is of a partial record
   pub run-ended : {x : Ran} {k : ℕ} {why : Refusal} → k ≡ min n (length events / eventRoom) → k ≤ i → i ≤ k → why ≡ refusal (cond (leb n k) 0 10)
       → x ≡ record { device = deviceOf r live buffer; count = k; refusal = why } → Running x trace (runs n d₀ book events) entry
-  run-ended {x} {k} {why} m h j f e₀ = by (leb n k) refl
+  run-ended {x} {k} {why} m h j f e = by (leb n k) refl
     where
-      e : x ≡ record { device = deviceOf r live buffer; count = k; refusal = refusal (cond (leb n k) 0 10) }
-      e = e₀ ∙ ap (λ (y : Refusal). record { device = deviceOf r live buffer; count = k; refusal = y }) f
+      d : Device
+      d = deviceOf r live buffer
+
+      b : List ℕ
+      b = take (entryRoom * i) trace
+
+      told : {t : Bool} → leb n k ≡ t → x ≡ record { device = d; count = k; refusal = refusal (cond t 0 10) }
+      told z = e ∙ ap (λ (y : Refusal). record { device = d; count = k; refusal = y }) (f ∙ rw z refl)
+
+      c : k ≡ i
+      c = omega (arith, h, j)
 
       by : (t : Bool) → leb n k ≡ t → Running x trace (runs n d₀ book events) entry
-      by true z =
-          let l : n ≤ k = leb-true n k z in
-          let c : k ≡ n = omega (arith, l, m) in
-          run-over (omega (arith, l, j, h)) (omega (arith, c, j)) (e ∙ rw (z, c) refl)
+      by true z = let l : n ≤ k = leb-true n k z in run-closed 0 (run-end book (runs n d₀ book events) d n i b events (omega (arith, l, c)) whole) c (told z)
       by false z =
           let l : k < n = leb-false n k z in
           let s = take eventRoom (drop (eventRoom * i) events) in
-          let u : turn (deviceOf r live buffer) book s .number ≡ 10 = partial (deviceOf r live buffer) book s (partial-length events (eventRoom * i) (omega (arith, m, l, h, j))) in
-          let w = run-stop book (runs n d₀ book events) (deviceOf r live buffer) n i (take (entryRoom * i) trace) events (omega (arith, l, j)) whole (λ y. (let q : _≡_ {A = ℕ} 10 0 = sym u ∙ y in omega (arith, q))) in
-          let v = w ∙ ap (λ (a : ℕ). longer (take (entryRoom * i) trace) i (stopped (deviceOf r live buffer) a)) u in
-          let c : k ≡ 0 + i = omega (arith, h, j) in
-          record {
-            value = e ∙ (rw z (ap (λ (c : ℕ). record { device = deviceOf r live buffer; count = c; refusal = refusal 10 }) c) ∙ ap ranOf (sym v));
-            trace = front₀ ∙ ap (λ (y : List ℕ). placed entry 0 y) (sym (append-nil (take (entryRoom * i) trace)) ∙ ap (λ (y : Run). y .bytes) (sym v));
-          }
+          let u : turn d book s .number ≡ 10 = partial d book s (partial-length events (eventRoom * i) (omega (arith, m, l, c))) in
+          let w = run-stop book (runs n d₀ book events) d n i b events (omega (arith, l, c)) whole (λ y. (let q : _≡_ {A = ℕ} 10 0 = sym u ∙ y in omega (arith, q))) in
+          run-closed 10 (w ∙ ap (λ (a : ℕ). longer b i (stopped d a)) u) c (told z)
 
 -- ---- how many turns
 
 pub turns-room : (e t : ℕ) → t / entryRoom ≤ e / eventRoom → t / entryRoom ≡ turnsBy e t
 unfolding turnsBy
-turns-room e t l = by (eqb (e % eventRoom) 0)
-  where
-    by : (b : Bool) → t / entryRoom ≡ min (t / entryRoom) (e / eventRoom + cond b 0 1)
-    by true = omega (arith, l)
-    by false = omega (arith, l)
+turns-room e t l = omega (arith, l)
 
 pub turns-whole : (e t : ℕ) → e / eventRoom < t / entryRoom → e % eventRoom ≡ 0 → e / eventRoom ≡ turnsBy e t
 unfolding turnsBy
