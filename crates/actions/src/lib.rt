@@ -1,4 +1,6 @@
 // What a step tells the bus, in five slots.
+#![tactic(auto)]
+
 ghost use Rattle.std.specs.Prelude.{◌≡◌, [], ◌++◌};
 ghost use Rattle.events.specs.Events.{listed, alone, told_by};
 ghost use Rattle.actions.specs.Actions.{consed, packed, laid};
@@ -7,7 +9,7 @@ use control_pipe::Told;
 use effects::Action;
 
 // In order; `Nothing` from the first free slot on.
-#[derive(Drop)]
+#[derive(Clone, Copy)]
 pub struct Actions {
     pub first: Action,
     pub second: Action,

@@ -1,4 +1,6 @@
 // The bytes that a decision answers with, written from the record into the control buffer.
+#![tactic(auto)]
+
 ghost use Rattle.std.specs.Prelude.{◌≡◌, [], ◌∷◌};
 ghost use Rattle.writer.specs.Descriptors.{parts};
 ghost use Rattle.answers.specs.Answers.{Answered, tell, filled_as, described, answer_of};
@@ -11,7 +13,7 @@ use requests::{Decision, Effect};
 use writer::Which;
 
 // What the pipe is to do: stall, send so many bytes of the buffer or the book from a byte on, or accept.
-#[derive(Drop)]
+#[derive(Clone, Copy)]
 pub enum Verdict {
     Stall,
     Bytes(usize),

@@ -1,6 +1,8 @@
 // Replays streams that the Rust crate usb-device 0.3.2 was driven through, and prints what ours says of each event: state, answer
 // and masks, the actions, the packet up to its last byte that is not 0. What it prints is held to the file stdout, which has
 // the Rust's own answers. oracle/sample makes both files. Each `ui` is left out, since the Rust unstalls OUT only.
+#![tactic(auto)]
+
 use device::Device;
 use libc::{STDIN_FILENO, STDOUT_FILENO};
 use record_bytes::RECORD;

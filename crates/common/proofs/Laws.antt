@@ -55,20 +55,15 @@ module _ {A : Type 0} where
   pub rest-nil : (l : List A) (n i : ℕ) → n ≤ i → drop i (take n l) ≡ []
   rest-nil l n i h = let k : length (take n l) ≤ i = rw (length-take n l) (omega arith) in drop_of_length-le (take n l) k
 
-  -- a copy of `&s[f..f + n]` into `&mut d[at..]`, as the two parts come back
+  -- a copy of `&s[f..f + n]` over `&mut d[at..at + n]`, as the three parts come back
   pub copied-part : (s d : List A) (f n at : ℕ) → f + n ≤ length s → at + n ≤ length d
-      → take at d ++ ((take (length (take (f + n - f) (drop f s))) (take (f + n - f) (drop f s)) ++ drop (length (take (f + n - f) (drop f s))) (take (length d - at) (drop at d))) ++ drop (length d - at) (drop at d))
-      ≡ placed d at (part f n s)
+      → take at d ++ (take (f + n - f) (drop f s) ++ drop (at + n - at) (drop at d)) ≡ placed d at (part f n s)
   unfolding placed
   copied-part s d f n at hs hd =
       let e : f + n - f ≡ n = omega arith in
+      let k : at + n - at ≡ n = omega arith in
       let l : n ≤ length (drop f s) = simp length-drop (omega arith) in
-      let k : length (drop at d) ≤ length d - at = simp length-drop (omega arith) in
-      rw e
-      (rw (length-take-le n (drop f s) l)
-      (rw (take-take n n (drop f s) (le_refl n))
-      (rw (take_all (length d - at) (drop at d) k)
-      (rw (drop_of_length-le (drop at d) k) (simp (drop-drop, append-nil))))))
+      rw (e, k) (simp (drop-drop, length-take-le n (drop f s) l))
 
   -- what `stored` says: of a part that runs past its end, nothing; else the part at its place
   pub stored_short : (d s : List A) (at f n : ℕ) → inside s f n ≡ false → d ≡ stored d at s f n

@@ -1,10 +1,12 @@
 // What the mast's crates share: the refusals and the one copy of bytes.
+#![tactic(auto)]
+
 ghost use Rattle.std.specs.Prelude.{◌≡◌, ◌+◌, ◌≤◌, length, replicate, leb};
 ghost use Rattle.common.specs.Refusals.{number_of};
 ghost use Rattle.common.specs.Bytes.{part, placed, stored};
 
 // Why the mast says no. `None` is no refusal.
-#[derive(Drop)]
+#[derive(Clone, Copy)]
 pub enum Refusal {
     None,
     PacketSize,
@@ -64,7 +66,7 @@ pub fn put(src: &[u8], from: usize, n: usize, dst: &mut [u8], at: usize)
     if !within(dst.len(), at, n) {
         return;
     }
-    bytes::copy(&src[from..from + n], &mut dst[at..]);
+    dst[at..at + n].copy_from_slice(&src[from..from + n]);
 }
 
 // Every byte becomes 0.

@@ -1,4 +1,6 @@
 // The configuration descriptor with its interfaces and their endpoints, written into a lent buffer at a position.
+#![tactic(auto)]
+
 ghost use Rattle.std.specs.Prelude.{◌≡◌, true, [], ◌∷◌, ◌+◌, ◌≤◌, length, take};
 ghost use Rattle.std.proofs.Math.Option.{some};
 ghost use Rattle.common.specs.Bytes.{placed};

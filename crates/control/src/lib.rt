@@ -1,28 +1,30 @@
 // A control request read from a SETUP packet, and the three kinds of number that a request can name.
+#![tactic(auto)]
+
 ghost use Rattle.std.specs.Prelude.{◌≡◌, ◌+◌, ◌*◌, ◌<◌, length};
 ghost use Rattle.control.specs.Setup.{direction_of, type_of, recipient_of, word_at, parsed, type_index_of};
 
 use common::Refusal;
 
 // The address of a device on the bus.
-#[derive(Drop)]
+#[derive(Clone, Copy)]
 pub struct BusAddress(pub u8);
 
 // An endpoint's number, with bit 7 set for IN.
-#[derive(Drop)]
+#[derive(Clone, Copy)]
 pub struct EndpointAddress(pub u8);
 
 // The place of a record in the tile book.
-#[derive(Drop)]
+#[derive(Clone, Copy)]
 pub struct TileNumber(pub u16);
 
-#[derive(Drop)]
+#[derive(Clone, Copy)]
 pub enum Direction {
     Out,
     In,
 }
 
-#[derive(Drop)]
+#[derive(Clone, Copy)]
 pub enum RequestType {
     Standard,
     Class,
@@ -30,7 +32,7 @@ pub enum RequestType {
     Reserved,
 }
 
-#[derive(Drop)]
+#[derive(Clone, Copy)]
 pub enum Recipient {
     Device,
     Interface,
@@ -39,7 +41,7 @@ pub enum Recipient {
     Reserved,
 }
 
-#[derive(Drop)]
+#[derive(Clone, Copy)]
 pub struct Request {
     pub direction: Direction,
     pub kind: RequestType,
@@ -50,14 +52,14 @@ pub struct Request {
     pub length: u16,
 }
 
-#[derive(Drop)]
+#[derive(Clone, Copy)]
 pub enum Parsed {
     Good(Request),
     Refused(Refusal),
 }
 
 // What the value of a GET_DESCRIPTOR request names.
-#[derive(Drop)]
+#[derive(Clone, Copy)]
 pub struct TypeIndex {
     pub kind: u8,
     pub index: u8,

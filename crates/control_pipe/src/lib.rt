@@ -1,5 +1,7 @@
 // Chapter 8 of USB 2.0: how the bytes of a control transfer travel through endpoint 0, stage by stage.
 // Every function is total: a pipe of any numbers, a packet, a book or a room of any length gets an answer.
+#![tactic(auto)]
+
 ghost use Rattle.std.specs.Prelude.{◌≡◌, cond, [], ◌∷◌, ◌+◌, ◌-◌, ◌≤◌, min};
 ghost use Rattle.control_pipe.specs.Sizes.{buffer_room};
 ghost use Rattle.common.specs.Bytes.{piece, front};
@@ -11,7 +13,7 @@ use control::{BusAddress, Direction, Parsed, Recipient, Request, RequestType};
 pub const BUFFER: usize = 128;
 
 // Where a control transfer stands.
-#[derive(Drop)]
+#[derive(Clone, Copy)]
 pub enum Stage {
     Idle,
     DataIn,
@@ -26,7 +28,7 @@ pub enum Stage {
 }
 
 // What the one read of an event gives.
-#[derive(Drop)]
+#[derive(Clone, Copy)]
 pub enum Read {
     Packet,
     Block,
@@ -34,7 +36,7 @@ pub enum Read {
 }
 
 // What the bus is told of endpoint 0. `Write` and `Refused` count the bytes of the packet at the front of the room.
-#[derive(Drop)]
+#[derive(Clone, Copy)]
 pub enum Told {
     Nothing,
     Unstalls,
@@ -46,7 +48,7 @@ pub enum Told {
 }
 
 // Where the bytes of an IN answer lie.
-#[derive(Drop)]
+#[derive(Clone, Copy)]
 pub enum Source {
     Buffer,
     Book,
@@ -54,7 +56,7 @@ pub enum Source {
 
 // The IN answer: `len` bytes of its source from `start` on, of which `sent` are sent. The source stands last: before `start` the
 // two are packed into one number and unpacked at every copy.
-#[derive(Drop)]
+#[derive(Clone, Copy)]
 pub struct Reply {
     pub start: u32,
     pub len: u32,
@@ -63,7 +65,7 @@ pub struct Reply {
 }
 
 // The OUT data: bytes awaited, and bytes held in the buffer.
-#[derive(Drop)]
+#[derive(Clone, Copy)]
 pub struct Coming {
     pub awaited: u16,
     pub held: u16,
@@ -71,7 +73,7 @@ pub struct Coming {
 
 // What an accepted SETUP drops: endpoint 0's stage and halts, the address to take when the status stage completes (0 for none),
 // the request of the last accepted SETUP, and its data.
-#[derive(Drop)]
+#[derive(Clone, Copy)]
 pub struct Pipe {
     pub stage: Stage,
     pub stallout: bool,
@@ -83,7 +85,7 @@ pub struct Pipe {
 }
 
 // What the pipe does at once. `done`: a request is complete, or at an IN-complete a status stage.
-#[derive(Drop)]
+#[derive(Clone, Copy)]
 pub struct Moved {
     pub pipe: Pipe,
     pub told: Told,

@@ -1,6 +1,8 @@
 // Writing a descriptor into a lent buffer at a position, and the device descriptor.
 // A record that breaks a limit is refused with 1, 2 or 3, and an answer that the room left does not take whole with 12:
 // then no byte is written. The record is lent in its parts, as a device holds it: r.plan, &r.ids, &r.lens, &r.units.
+#![tactic(auto)]
+
 ghost use Rattle.std.specs.Prelude.{◌≡◌, ◌*◌, ◌≤◌, ◌<◌, length};
 ghost use Rattle.std.proofs.Math.Option.{some};
 ghost use Rattle.record.specs.Sizes.{names, language_room};
@@ -13,7 +15,7 @@ use plan::Plan;
 use record::{LANGUAGES, NAMES, STRINGS};
 
 // How a call ends: so many bytes were written, there is no such string, or it was refused.
-#[derive(Drop)]
+#[derive(Clone, Copy)]
 pub enum Written {
     Bytes(usize),
     Missing,

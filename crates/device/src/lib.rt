@@ -1,5 +1,7 @@
 // The mast's device: built from a record and the length of a book, then stepped through the events of the bus.
 // Any call gets an answer. A refused call says its number and changes nothing.
+#![tactic(auto)]
+
 ghost use Rattle.std.specs.Prelude.{◌≡◌};
 ghost use Rattle.common.specs.Refusals.{number_of, refusal};
 ghost use Rattle.device.specs.Device.{Stepping, Handing, fresh, build_refusal, build_of, no_masks, masks_of, polled_of, refused_poll, unfit_device, data_refusal, powered_of};
@@ -12,7 +14,7 @@ use live::Live;
 use record::Record;
 
 // Everything that a device is.
-#[derive(Drop)]
+#[derive(Clone, Copy)]
 pub struct Device {
     pub profile: Record,
     pub live: Live,
@@ -20,7 +22,7 @@ pub struct Device {
 }
 
 // What came for endpoints 1 to 15: a SETUP, OUT without a SETUP, an IN-complete. Bit n is endpoint n, bit 0 is clear.
-#[derive(Drop)]
+#[derive(Clone, Copy)]
 pub struct Masks {
     pub setup: u16,
     pub out: u16,
@@ -28,7 +30,7 @@ pub struct Masks {
 }
 
 // What a step says beside the device. The answer is true for Data alone.
-#[derive(Drop)]
+#[derive(Clone, Copy)]
 pub struct Polled {
     pub refusal: Refusal,
     pub answer: bool,
@@ -36,21 +38,21 @@ pub struct Polled {
     pub actions: Actions,
 }
 
-#[derive(Drop)]
+#[derive(Clone, Copy)]
 pub struct Stepped {
     pub device: Device,
     pub polled: Polled,
 }
 
 // A device, or why there is none that can be used.
-#[derive(Drop)]
+#[derive(Clone, Copy)]
 pub struct Built {
     pub device: Device,
     pub refusal: Refusal,
 }
 
 // How many bytes of OUT data stand at the front of the room, or why none do.
-#[derive(Drop)]
+#[derive(Clone, Copy)]
 pub struct Handed {
     pub refusal: Refusal,
     pub count: usize,

@@ -1,5 +1,7 @@
 // A record at every limit: one of its numbers runs, and where the refusal becomes another, the number and the refusal are told.
 // What it prints is held to the file stdout, which was written from document 01.
+#![tactic(auto)]
+
 ghost use Rattle.std.specs.Prelude.{◌<◌};
 
 use control::EndpointAddress;

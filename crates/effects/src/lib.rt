@@ -1,4 +1,6 @@
 // The second half of an event, on the parts of a device that a SETUP changes: an answer sets out, or an IN-complete is handled.
+#![tactic(auto)]
+
 ghost use Rattle.std.specs.Prelude.{◌≡◌, not, ◌&&◌, [], ◌-◌, eqb};
 ghost use Rattle.control_pipe.specs.Stages.{stalled, accept_in};
 ghost use Rattle.effects.specs.declared.Action.TheVariants.{Nothing as NoAction};
@@ -11,7 +13,7 @@ use live::Live;
 use requests::{Effect, Kept, State};
 
 // What the bus is told. `Write` and `Refused` count the bytes of the packet at the front of the room.
-#[derive(Drop)]
+#[derive(Clone, Copy)]
 pub enum Action {
     Nothing,
     Resume,
@@ -29,7 +31,7 @@ pub enum Action {
 }
 
 // What half an event does: a request that is decided, or an IN-complete.
-#[derive(Drop)]
+#[derive(Clone, Copy)]
 pub struct Half {
     pub live: Live,
     pub act: Action,

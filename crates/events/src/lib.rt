@@ -1,4 +1,6 @@
 // One event of the bus, on the parts of a device that no refusal stands against: chapter 8's pipe and chapter 9's answers joined.
+#![tactic(auto)]
+
 ghost use Rattle.std.specs.Prelude.{◌≡◌, not, ◌&&◌, []};
 ghost use Rattle.control_pipe.specs.Stages.{Took};
 ghost use Rattle.live.specs.Live.{awake};
@@ -15,7 +17,7 @@ use record::{LANGUAGES, STRINGS, TEXT};
 use requests::State;
 
 // What the one write of an event will get.
-#[derive(Drop)]
+#[derive(Clone, Copy)]
 pub enum Write {
     Taken,
     Refused,
@@ -23,7 +25,7 @@ pub enum Write {
 
 // What arrived: the masks of the endpoints, the one read and the one write. In this order it has ten bytes; eight would be packed
 // into one number and unpacked at every copy.
-#[derive(Drop)]
+#[derive(Clone, Copy)]
 pub struct Arrival {
     pub setup: u16,
     pub read: Read,
@@ -32,7 +34,7 @@ pub struct Arrival {
     pub write: Write,
 }
 
-#[derive(Drop)]
+#[derive(Clone, Copy)]
 pub enum Event {
     Nothing,
     Reset,
@@ -42,7 +44,7 @@ pub enum Event {
 }
 
 // What an event does. The bus is told, in this order: resume, `first`, `act`, `second`.
-#[derive(Drop)]
+#[derive(Clone, Copy)]
 pub struct Handled {
     pub resumed: bool,
     pub first: Told,

@@ -1,4 +1,6 @@
 // Which of refusals 1, 2 and 3 a device record gets. Any record gets an answer, whatever its counts say.
+#![tactic(auto)]
+
 ghost use Rattle.std.specs.Prelude.{◌≡◌, map, ◌*◌, ◌≤◌, length, take, drop};
 ghost use Rattle.common.specs.Refusals.{refusal};
 ghost use Rattle.common.specs.Lists.{every, member, none_twice};

@@ -1,4 +1,6 @@
 // The lines that a stream of event records is told in: one for each event, and one where a record is bad.
+#![tactic(auto)]
+
 ghost use Rattle.std.specs.Prelude.{◌≡◌, ◌+◌, ◌*◌, ◌<◌, ◌≤◌, min, [], ◌∷◌, ◌++◌, length, take, drop};
 ghost use Rattle.records.specs.Sizes.{packet_room};
 ghost use Rattle.stream.specs.Trace.{entry_room, top_room};
@@ -18,7 +20,7 @@ pub const LINE: usize = 673;
 pub const BAD: usize = 26;
 
 // The device after a run, how many event records it took, the bytes of their lines, and what stopped it.
-#[derive(Drop)]
+#[derive(Clone, Copy)]
 pub struct Printed {
     pub device: Device,
     pub count: usize,

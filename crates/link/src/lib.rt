@@ -1,5 +1,7 @@
 // The mast's device for programs in C and Rust: include/mast.h declares these functions. A caller holds the device as bytes, and
 // lends them, the book, the events and the room to each call. Any bytes get an answer.
+#![tactic(auto)]
+
 ghost use Rattle.std.specs.Prelude.{◌≡◌, ◌+◌, ◌*◌, ◌^◌, ◌≤◌};
 ghost use Rattle.common.specs.Refusals.{number_of};
 ghost use Rattle.state.specs.State.{state_size};

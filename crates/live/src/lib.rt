@@ -1,4 +1,6 @@
 // What a device holds beside its record and its buffer, and the tests that stand before every call: refusals 9, 5 and 6.
+#![tactic(auto)]
+
 ghost use Rattle.std.specs.Prelude.{◌≡◌};
 ghost use Rattle.common.specs.Refusals.{refusal};
 ghost use Rattle.live.specs.Live.{fresh, book_fine, coming_fine, source_room, reply_fine, pipe_fine, awake, state_fine, live_fine, unfit, step_refusal};
@@ -16,7 +18,7 @@ pub const BOOK: u32 = 65536;
 pub const ADDRESSES: u8 = 127;
 
 // The pipe is what an accepted SETUP drops, `kept` what outlives it. `before` is the state under Suspend.
-#[derive(Drop)]
+#[derive(Clone, Copy)]
 pub struct Live {
     pub pipe: Pipe,
     pub kept: Kept,

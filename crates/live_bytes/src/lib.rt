@@ -1,4 +1,6 @@
 // What a device holds beside its record and its buffer, as bytes. specs/Layout.antt has the layout and the codes.
+#![tactic(auto)]
+
 ghost use Rattle.std.specs.Prelude.{◌≡◌, ◌&&◌, ◌+◌, ◌*◌, ◌≤◌, length};
 ghost use Rattle.common.specs.Bytes.{placed};
 ghost use Rattle.record_bytes.specs.Codes.{flag_code};

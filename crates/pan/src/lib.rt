@@ -1,4 +1,6 @@
 // The device of field notes 4 to 6, which the programs drive: its record, as the table of the notes has it.
+#![tactic(auto)]
+
 ghost use Rattle.std.specs.Prelude.{◌≡◌};
 ghost use Rattle.notes.specs.Notes.{pan};
 

@@ -1,6 +1,8 @@
 // The plan of a device: what its record says apart from languages and strings. It is small, and passed by value.
 // A person fills it with its methods. What has no place spoils a count, so that refusal 2 tells of it: nothing is dropped in
 // silence. What lies beyond a count is not looked at.
+#![tactic(auto)]
+
 ghost use Rattle.std.specs.Prelude.{◌≡◌};
 ghost use Rattle.plan.specs.Planning.{add_interface, add_endpoint, bare, with_interface, with_endpoint};
 
@@ -15,7 +17,7 @@ pub const ENDPOINTS: usize = 8;
 pub const SPOILT: u8 = 255;
 
 // What a plan says apart from its lists. Power is in units of 2 mA.
-#[derive(Drop)]
+#[derive(Clone, Copy)]
 pub struct Basics {
     pub packet: u8,
     pub class: u8,
@@ -30,20 +32,20 @@ pub struct Basics {
     pub quirk: bool,
 }
 
-#[derive(Drop)]
+#[derive(Clone, Copy)]
 pub struct Interface {
     pub class: u8,
     pub subclass: u8,
     pub protocol: u8,
 }
 
-#[derive(Drop)]
+#[derive(Clone, Copy)]
 pub enum Kind {
     Bulk,
     Interrupt,
 }
 
-#[derive(Drop)]
+#[derive(Clone, Copy)]
 pub struct Endpoint {
     pub address: EndpointAddress,
     pub kind: Kind,
@@ -52,20 +54,20 @@ pub struct Endpoint {
     pub interface: u8,
 }
 
-#[derive(Drop)]
+#[derive(Clone, Copy)]
 pub struct Interfaces {
     pub count: u8,
     pub list: [Interface; INTERFACES],
 }
 
-#[derive(Drop)]
+#[derive(Clone, Copy)]
 pub struct Endpoints {
     pub count: u8,
     pub list: [Endpoint; ENDPOINTS],
 }
 
 // `languages` counts the languages that a record adds.
-#[derive(Drop)]
+#[derive(Clone, Copy)]
 pub struct Plan {
     pub basics: Basics,
     pub interfaces: Interfaces,

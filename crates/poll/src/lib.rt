@@ -1,4 +1,6 @@
 // The device changed in place: one thin poll around the step by value, for an owner who holds a device and lends it.
+#![tactic(auto)]
+
 ghost use Rattle.device.specs.Device.{Stepping};
 ghost use Rattle.poll.specs.Poll.{Polling};
 

@@ -1,6 +1,8 @@
 // The device record: a plan, with the languages and strings of the device.
 // A person fills it with its methods; nobody computes a place in its flat arrays. What has no place spoils the record, so that
 // refusal 3 tells of it: nothing is dropped in silence. What lies beyond a count is not looked at.
+#![tactic(auto)]
+
 ghost use Rattle.std.specs.Prelude.{◌≡◌, ◌+◌, ◌≤◌, ◌<◌, length};
 ghost use Rattle.record.specs.Sizes.{names, string_room};
 ghost use Rattle.record.specs.Filling.{bare, with_plan, with_languages, with_language, with_string, with_text, with_length, name_of};
@@ -20,7 +22,7 @@ pub const STRINGS: usize = LANGUAGES * NAMES;
 pub const TEXT: usize = STRINGS * UNITS;
 
 // `lens` at NAMES * language + name: 0 for no string, else its units and one. `units` at UNITS times that place.
-#[derive(Drop)]
+#[derive(Clone, Copy)]
 pub struct Record {
     pub plan: Plan,
     pub ids: [u16; LANGUAGES],
@@ -29,7 +31,7 @@ pub struct Record {
 }
 
 // The three strings of a language.
-#[derive(Drop)]
+#[derive(Clone, Copy)]
 pub enum Name {
     Manufacturer,
     Product,

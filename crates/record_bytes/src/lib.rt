@@ -1,4 +1,6 @@
 // The device record as bytes. specs/Layout.antt has the layout, field by field.
+#![tactic(auto)]
+
 ghost use Rattle.std.specs.Prelude.{◌≡◌, ◌+◌, ◌*◌, ◌≤◌, length};
 ghost use Rattle.common.specs.Bytes.{placed};
 ghost use Rattle.common.specs.Lists.{every};

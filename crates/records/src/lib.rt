@@ -1,4 +1,6 @@
 // Event records of 80 bytes: an event of the bus as a stream holds it.
+#![tactic(auto)]
+
 ghost use Rattle.std.specs.Prelude.{◌≡◌, ◌+◌, ◌≤◌, length, take, drop};
 ghost use Rattle.common.specs.Lists.{every};
 ghost use Rattle.records.specs.Sizes.{event_room, head_room, packet_room};
@@ -16,13 +18,13 @@ pub const HEAD: usize = 16;
 pub const PACKET: usize = 64;
 
 // An event, and how many bytes of the record's packet came with it.
-#[derive(Drop)]
+#[derive(Clone, Copy)]
 pub struct Happening {
     pub event: Event,
     pub length: u8,
 }
 
-#[derive(Drop)]
+#[derive(Clone, Copy)]
 pub enum Known {
     Good(Happening),
     Refused(Refusal),

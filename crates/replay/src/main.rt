@@ -3,6 +3,8 @@
 // Where standard input cannot be read (a directory) or standard output not be written (a full disk), it stops and says so on
 // standard error. The exit status is 0, since a program of Rattle has no other; the system itself ends one that writes to a pipe
 // that nobody reads (SIGPIPE, which a shell shows as 141).
+#![tactic(auto)]
+
 ghost use Rattle.std.specs.Prelude.{◌≡◌};
 ghost use Rattle.common.specs.Bytes.{stored};
 
@@ -28,7 +30,7 @@ struct Place {
 }
 
 // How many bytes the buffer holds after a read.
-#[derive(Drop)]
+#[derive(Clone, Copy)]
 struct Filled {
     total: usize,
     failed: bool,

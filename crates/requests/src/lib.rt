@@ -1,5 +1,7 @@
 // Chapter 9 of USB 2.0: what a request means. A complete request is decided by what outlives a SETUP, by the halts of endpoint 0
 // and by the book's length alone; what a decision says is then written from the record.
+#![tactic(auto)]
+
 ghost use Rattle.std.specs.Prelude.{◌≡◌, ◌^◌, ◌≤◌, ◌<◌};
 ghost use Rattle.requests.specs.Requests.{endpoint_of, halt_place, with_halt, halted, status_bits, configured_byte, device_in, interface_in, endpoint_in, standard_in, tiles_from, tiles_in, vendor_in, decide_in, set_address, deconfigured, set_configuration, feature, device_out, interface_out, endpoint_out, standard_out, decide_out, decide_by, decided};
 
@@ -15,7 +17,7 @@ pub const TILE: u32 = 16;
 pub const READ_TILES: u8 = 1;
 
 // The state of the device.
-#[derive(Drop)]
+#[derive(Clone, Copy)]
 pub enum State {
     Default,
     Addressed,
@@ -24,7 +26,7 @@ pub enum State {
 }
 
 // What outlives an accepted SETUP. `halts` has endpoint n OUT at bit n and n IN at bit 16 + n, for 1 to 15.
-#[derive(Drop)]
+#[derive(Clone, Copy)]
 pub struct Kept {
     pub state: State,
     pub wakeup: bool,
@@ -33,7 +35,7 @@ pub struct Kept {
 }
 
 // What an accepted OUT request does.
-#[derive(Drop)]
+#[derive(Clone, Copy)]
 pub enum Effect {
     Nothing,
     Wakeup(bool),
@@ -44,7 +46,7 @@ pub enum Effect {
 }
 
 // How a request is answered: stalled; with a status of two bytes, a byte, a descriptor, or the book from a byte on; or accepted.
-#[derive(Drop)]
+#[derive(Clone, Copy)]
 pub enum Decision {
     Stall,
     Status(u8),

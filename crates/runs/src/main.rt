@@ -1,5 +1,7 @@
 // Runs field notes 1 to 6 of document 01 and prints what the code answers.
 // What it prints is held to the file stdout, which was written from document 01.
+#![tactic(auto)]
+
 mod say;
 
 use control::{EndpointAddress, Parsed, Request};

@@ -1,4 +1,6 @@
 // A device as bytes, so that a caller in another language can hold it: specs/State.antt has the layout.
+#![tactic(auto)]
+
 ghost use Rattle.std.specs.Prelude.{◌≡◌, length};
 ghost use Rattle.common.specs.Refusals.{refusal};
 ghost use Rattle.control_pipe.specs.Sizes.{buffer_room};

@@ -1,4 +1,6 @@
 // A stream of event records goes through one device, and a trace entry is written for each.
+#![tactic(auto)]
+
 ghost use Rattle.std.specs.Prelude.{◌≡◌, cond, ◌+◌, ◌/◌, ◌≤◌, min, leb, length};
 ghost use Rattle.common.specs.Bytes.{placed};
 ghost use Rattle.writer.specs.Descriptors.{parts};
@@ -25,14 +27,14 @@ pub const ENTRY: usize = 82;
 pub const TOP: usize = 18;
 
 // What one event record did: the live part then, or why it was refused.
-#[derive(Drop)]
+#[derive(Clone, Copy)]
 pub struct One {
     pub live: Live,
     pub refusal: Refusal,
 }
 
 // The device after a run, how many event records it took, and what stopped it before the end or the trace's.
-#[derive(Drop)]
+#[derive(Clone, Copy)]
 pub struct Ran {
     pub device: Device,
     pub count: usize,

@@ -1,4 +1,6 @@
 // The language list and the strings, written into a lent buffer at a position.
+#![tactic(auto)]
+
 ghost use Rattle.std.specs.Prelude.{◌≡◌, true, [], ◌∷◌, ◌+◌, ◌*◌, ◌≤◌, ◌<◌, length, get_or, take};
 ghost use Rattle.std.proofs.Math.Option.{some, map};
 ghost use Rattle.common.specs.Bytes.{part, placed};
@@ -14,7 +16,7 @@ use descriptor::Written;
 use plan::Plan;
 use record::{LANGUAGES, NAMES, STRINGS, TEXT, UNITS};
 
-#[derive(Drop)]
+#[derive(Clone, Copy)]
 enum Found {
     At(usize),
     Nowhere,

@@ -2,6 +2,8 @@
 // records. A line for each event has its trace entry in hex, without the zero bytes at its end. The last line of each has the
 // packet size, how many events were taken, what stopped it, and the OUT data that is left: its length, its refusal, its bytes.
 // What it prints is held to the file stdout, which model/transfers.py made from document 01.
+#![tactic(auto)]
+
 use control::EndpointAddress;
 use control_pipe::BUFFER;
 use device::Device;

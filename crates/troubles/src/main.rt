@@ -2,6 +2,8 @@
 // length. Standard input has them one after the other, each behind its first number (8 bytes) and its length (2 bytes),
 // little-endian. The rooms take three records in a call, so that their end is met too. A line `-` follows each stream.
 // What it prints is held to the file stdout, which model/replay.py made from document 01.
+#![tactic(auto)]
+
 use device::Device;
 use libc::{STDIN_FILENO, STDOUT_FILENO};
 use records::EVENT;
@@ -15,7 +17,7 @@ const TRACE: usize = 246;
 const OUT: usize = 2045;
 
 // Where a stream stands: the next number, the next record's place, and whether there is more to do.
-#[derive(Drop)]
+#[derive(Clone, Copy)]
 struct Place {
     device: Device,
     number: u64,

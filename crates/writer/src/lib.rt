@@ -1,6 +1,8 @@
 // The descriptor writer: it holds a lent answer buffer and the position of its next byte.
 // A descriptor is appended whole. Where the record breaks a limit, where there is no such descriptor, and where less room is
 // left than it takes, no byte is written and the position stays. The covered functions work on a slice and a number.
+#![tactic(auto)]
+
 ghost use Rattle.std.specs.Prelude.{◌≡◌, []};
 ghost use Rattle.std.proofs.Math.Option.{none};
 ghost use Rattle.limits.specs.Limits.{lowest};
@@ -13,7 +15,7 @@ use plan::Plan;
 use record::{LANGUAGES, STRINGS, TEXT};
 
 // The descriptor that a request names: wValue's type and index, and wIndex.
-#[derive(Drop)]
+#[derive(Clone, Copy)]
 pub struct Which {
     pub kind: u8,
     pub index: u8,
