@@ -6,10 +6,10 @@ use mathlib.Core.Bool.{Bool, true, false, cond, ◌&&◌, false≢true}
 use mathlib.Core.Path.{◌≡◌, refl, sym, ap, ◌∙◌}
 use mathlib.Core.List.{List, [], ◌∷◌, ◌++◌, append_assoc, append-nil}
 use native.Mathlib.Omega.{arith}
-use native.Mathlib.Nat.{le_refl, zero-add, add-zero, add_assoc}
+use native.Mathlib.Nat.{zero-add, add-zero, add_assoc}
 use native.Mathlib.Numerals.{add-one}
 use lib.ListN.{length, get_or, take, drop, length-take, length-append, length-drop, drop_of_length-le, take-append-drop}
-use lib.Seq.{slice-cons, paste, take-length, length-take-le, take_all, take-take, drop-drop, drop-append-add, take_at}
+use lib.Seq.{slice-cons, paste, take-length, length-take-le, take_all, drop-drop, drop-append-add, take_at}
 use Rattle.common.specs.Bytes.{inside, part, placed, stored, piece, front}
 
 -- a test of numbers from its fact

@@ -21,7 +21,7 @@ use Rattle.control_pipe.specs.declared.Read.{Read}
 use Rattle.control_pipe.specs.declared.Pipe.{Pipe}
 use Rattle.control_pipe.specs.declared.Moved.{Moved}
 use Rattle.control_pipe.specs.Sizes.{buffer_room}
-use Rattle.control_pipe.specs.Stages.{Move, Took, Sent, still, ready, stalled, fresh, zeros, begin_out, begin_by, end_read, bad_read, out_at, out_come, in_at, in_complete}
+use Rattle.control_pipe.specs.Stages.{Move, Took, Sent, still, zeros, begin_out, begin_by, end_read, bad_read, out_at, out_come, in_at, in_complete}
 
 -- an accepted SETUP leaves the buffer zero
 pub begin-zeros : (d : Direction) (q : Request) → (begin_by d q).buffer ≡ zeros

@@ -1,6 +1,6 @@
 -- USB 2.0 section 8.5.3 (control transfers) and document 01, module 3: what the pipe does at a SETUP, at an OUT packet and at an
 -- IN-complete, at each stage. Nothing here knows what a request means.
-use Rattle.std.specs.Prelude.{ℕ, ◌+◌, ◌-◌, min, Bool, true, false, cond, List, [], ◌∷◌, ◌≡◌, eqb, leb, length, replicate}
+use Rattle.std.specs.Prelude.{ℕ, ◌+◌, ◌-◌, min, Bool, true, false, cond, List, [], ◌≡◌, eqb, leb, length, replicate}
 use Rattle.common.specs.Bytes.{placed, piece, front}
 use Rattle.control.specs.declared.Direction.{Direction}
 use Rattle.control.specs.declared.Direction.TheVariants.{In, Out}
