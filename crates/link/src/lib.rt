@@ -1,5 +1,5 @@
-// The mast's device for programs in C and Rust: include/mast.h declares these functions. A caller holds the device as bytes, and
-// lends them, the book, the events and the room to each call. Any bytes get an answer.
+// The mast's device for programs in C and Rust: include/mast.h declares these functions, and the crate `link_c` exports them. A caller
+// holds the device as bytes, and lends them, the book, the events and the room to each call. Any bytes get an answer.
 #![tactic(auto)]
 
 ghost use Rattle.std.specs.Prelude.{◌≡◌, ◌+◌, ◌*◌, ◌^◌, ◌≤◌};
@@ -21,8 +21,7 @@ fn answer(count: usize, why: Refusal) -> usize
 }
 
 // How many bytes a state has.
-#[unsafe(no_mangle)]
-pub extern "C" fn mast_size() -> usize
+pub fn mast_size() -> usize
     ensures { result ≡ state_size }
 {
     STATE
@@ -42,8 +41,7 @@ fn sooner(coded: bool, number: u8) -> u8
 }
 
 // A state from a record and the length of a book: refusals 1 to 4, and 9 where the state has another length.
-#[unsafe(no_mangle)]
-pub extern "C" fn mast_build(profile: &[u8], book: usize, state: &mut [u8]) -> u8
+pub fn mast_build(profile: &[u8], book: usize, state: &mut [u8]) -> u8
     ensures { Building result state.new profile.now book state.old }
 {
     if profile.len() != RECORD {
@@ -62,8 +60,7 @@ pub extern "C" fn mast_build(profile: &[u8], book: usize, state: &mut [u8]) -> u
 }
 
 // A run of the device through event records: 16 times how many it took, and the number that stopped it.
-#[unsafe(no_mangle)]
-pub extern "C" fn mast_run(state: &mut [u8], book: &[u8], events: &[u8], trace: &mut [u8]) -> usize
+pub fn mast_run(state: &mut [u8], book: &[u8], events: &[u8], trace: &mut [u8]) -> usize
     ensures { Running result state.new trace.new state.old book.now events.now trace.old }
 {
     let held = state::read(state);
@@ -81,8 +78,7 @@ pub extern "C" fn mast_run(state: &mut [u8], book: &[u8], events: &[u8], trace: 
 }
 
 // The OUT data goes to the front of the room: 16 times how many bytes, and the number of the refusal.
-#[unsafe(no_mangle)]
-pub extern "C" fn mast_data(state: &[u8], room: &mut [u8]) -> usize
+pub fn mast_data(state: &[u8], room: &mut [u8]) -> usize
     ensures { Handing result room.new state.now room.old }
 {
     let held = state::read(state);
@@ -97,8 +93,7 @@ pub extern "C" fn mast_data(state: &[u8], room: &mut [u8]) -> usize
 }
 
 // Whether the device is self-powered now.
-#[unsafe(no_mangle)]
-pub extern "C" fn mast_set_self_powered(state: &mut [u8], on: bool) -> u8
+pub fn mast_set_self_powered(state: &mut [u8], on: bool) -> u8
     ensures { Setting result state.new state.old on }
 {
     let held = state::read(state);
