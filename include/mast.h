@@ -7,7 +7,7 @@
  * Every slice is a pointer and the number of its bytes. No pointer may be NULL, even of a slice of 0 bytes, and what a call may
  * write (a pointer without const) may not overlap what else it is lent. Two calls may run at a time on different states.
  *
- * Numbers of more than one byte are little-endian. The archive, liblink.a, is for x86-64 and calls memcpy and memset.
+ * Numbers of more than one byte are little-endian. The archive, liblink.a, is for x86-64-v2 and calls memcpy and memset.
  */
 #ifndef MAST_H
 #define MAST_H

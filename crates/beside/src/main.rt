@@ -3,9 +3,11 @@
 // the Rust's own answers. oracle/sample makes both files. Each `ui` is left out, since the Rust unstalls OUT only.
 #![tactic(auto)]
 
+ghost use Rattle.std.specs.Prelude.{IfOk, ◌≤◌, length};
+
 use device::Device;
-use libc::{STDIN_FILENO, STDOUT_FILENO};
 use record_bytes::RECORD;
+use std::io::{self, Read};
 use stream::{ENTRY, TOP};
 
 // Where the actions stand in a trace entry.
@@ -25,67 +27,72 @@ fn used(s: &[u8]) -> usize {
     0
 }
 
-fn two(b: u8) {
-    io::print_hex(STDOUT_FILENO, b as u64, 2);
+fn two<R: Print>(rt: &R, b: u8) -> io::Result<()> {
+    print!(rt; "{b:02x}")
 }
 
-fn byte(s: &[u8], i: usize) {
+fn byte<R: Print>(rt: &R, s: &[u8], i: usize) -> io::Result<()> {
     if i < s.len() {
-        two(s[i]);
+        two(rt, s[i])?;
     }
+    Ok(())
 }
 
-fn hex(s: &[u8], n: usize) {
-    let mut i: usize = 0;
-    while i < n {
-        byte(s, i);
-        i += 1;
+fn hex<R: Print>(rt: &R, s: &[u8], n: usize) -> io::Result<()> {
+    for i in 0..n {
+        byte(rt, s, i)?;
     }
+    Ok(())
 }
 
-fn action(code: u8, argument: u8) {
+fn action<R: Print>(rt: &R, code: u8, argument: u8) -> io::Result<()> {
     if code == 0 || code == UNSTALL_IN {
-        return;
+        return Ok(());
     }
-    two(code);
-    two(argument);
+    two(rt, code)?;
+    two(rt, argument)
 }
 
-fn actions(s: &[u8]) {
+fn actions<R: Print>(rt: &R, s: &[u8]) -> io::Result<()> {
     if s.len() < 10 {
-        return;
+        return Ok(());
     }
-    action(s[0], s[1]);
-    action(s[2], s[3]);
-    action(s[4], s[5]);
-    action(s[6], s[7]);
-    action(s[8], s[9]);
+    action(rt, s[0], s[1])?;
+    action(rt, s[2], s[3])?;
+    action(rt, s[4], s[5])?;
+    action(rt, s[6], s[7])?;
+    action(rt, s[8], s[9])
 }
 
-fn entry(trace: &[u8], i: usize) {
+fn entry<R: Print>(rt: &R, trace: &[u8], i: usize) -> io::Result<()> {
     if trace.len() / ENTRY <= i {
-        return;
+        return Ok(());
     }
     let at = ENTRY * i;
-    hex(&trace[at..at + ACTIONS], ACTIONS);
-    io::write_all(STDOUT_FILENO, b".");
-    actions(&trace[at + ACTIONS..at + TOP]);
-    io::write_all(STDOUT_FILENO, b".");
+    hex(rt, &trace[at..at + ACTIONS], ACTIONS)?;
+    print!(rt; ".")?;
+    actions(rt, &trace[at + ACTIONS..at + TOP])?;
+    print!(rt; ".")?;
     let packet = &trace[at + TOP..at + ENTRY];
-    hex(packet, used(packet));
-    io::write_all(STDOUT_FILENO, b"\n");
+    hex(rt, packet, used(packet))?;
+    println!(rt;)
 }
 
-fn entries(trace: &[u8], count: usize) {
-    let mut i: usize = 0;
-    while i < count {
-        entry(trace, i);
-        i += 1;
+fn entries<R: Print>(rt: &R, trace: &[u8], count: usize) -> io::Result<()> {
+    for i in 0..count {
+        entry(rt, trace, i)?;
     }
+    Ok(())
 }
 
 // A device of a record, through the events.
-fn replay(bytes: &[u8; RECORD], powered: bool, book: &[u8], events: &[u8]) {
+fn replay<R: Print>(
+    rt: &R,
+    bytes: &[u8; RECORD],
+    powered: bool,
+    book: &[u8],
+    events: &[u8],
+) -> io::Result<()> {
     let built = Device::build(record_bytes::read(bytes), book.len());
     let device = built.device;
     let set = device.set_self_powered(powered);
@@ -93,46 +100,75 @@ fn replay(bytes: &[u8; RECORD], powered: bool, book: &[u8], events: &[u8]) {
     let mut trace = [0u8; 20500];
     let ran = stream::run(device, book, events, &mut trace);
     let why = ran.refusal;
-    entries(&trace, ran.count);
-    io::print_decimal(STDOUT_FILENO, why.number() as u64);
-    io::write_all(STDOUT_FILENO, b"\n");
+    entries(rt, &trace, ran.count)?;
+    println!(rt; "{}", why.number())
 }
 
 // The same with so many records of the tiles for a book.
-fn with_book(bytes: &[u8; RECORD], powered: u8, count: u8, tiles: &[u8], events: &[u8]) {
+fn with_book<R: Print>(
+    rt: &R,
+    bytes: &[u8; RECORD],
+    powered: u8,
+    count: u8,
+    tiles: &[u8],
+    events: &[u8],
+) -> io::Result<()> {
     let n = 16 * (count as usize);
     if n <= tiles.len() {
-        replay(bytes, powered == 1, &tiles[0..n], events);
+        replay(rt, bytes, powered == 1, &tiles[0..n], events)?;
     }
+    Ok(())
 }
 
-fn with_head(bytes: &[u8; RECORD], head: &[u8], tiles: &[u8], events: &[u8]) {
+fn with_head<R: Print>(
+    rt: &R,
+    bytes: &[u8; RECORD],
+    head: &[u8],
+    tiles: &[u8],
+    events: &[u8],
+) -> io::Result<()> {
     if 2 <= head.len() {
-        with_book(bytes, head[0], head[1], tiles, events);
+        with_book(rt, bytes, head[0], head[1], tiles, events)?;
     }
+    Ok(())
+}
+
+// Reads until the buffer is full or the input ends: how many bytes of it were read.
+fn read_full<R: Read>(input: &mut R, buf: &mut [u8]) -> io::Result<usize>
+    ensures { IfOk result (λ n. n ≤ length buf.new) }
+{
+    let mut done: usize = 0;
+    while done < buf.len() {
+        let n = input.read(&mut buf[done..])?;
+        if n == 0 {
+            break;
+        }
+        done += n;
+    }
+    Ok(done)
 }
 
 // One stream of standard input.
-fn next() {
+fn next<R: Input + Print>(rt: &R) -> io::Result<()> {
     let mut bytes = [0u8; RECORD];
     let mut head = [0u8; 2];
     let mut tiles = [0u8; 1120];
     let mut events = [0u8; 20000];
-    io::read_full(STDIN_FILENO, &mut bytes);
-    io::read_full(STDIN_FILENO, &mut head);
-    io::read_full(STDIN_FILENO, &mut tiles);
-    io::read_full(STDIN_FILENO, &mut events);
-    with_head(&bytes, &head, &tiles, &events);
+    let mut input = rt.reader();
+    read_full(&mut input, &mut bytes)?;
+    read_full(&mut input, &mut head)?;
+    read_full(&mut input, &mut tiles)?;
+    read_full(&mut input, &mut events)?;
+    with_head(rt, &bytes, &head, &tiles, &events)
 }
 
-fn streams(n: usize) {
-    let mut i: usize = 0;
-    while i < n {
-        next();
-        i += 1;
+fn streams<R: Input + Print>(rt: &R, n: usize) -> io::Result<()> {
+    for _ in 0..n {
+        next(rt)?;
     }
+    Ok(())
 }
 
-fn main() {
-    streams(12);
+fn main(rt: HostRuntime) -> io::Result<()> {
+    streams(&rt, 12)
 }

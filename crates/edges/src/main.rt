@@ -5,9 +5,9 @@
 ghost use Rattle.std.specs.Prelude.{◌<◌};
 
 use control::EndpointAddress;
-use libc::STDOUT_FILENO;
 use plan::{Basics, Endpoint, Interface, Kind, Plan};
 use record::{Name, Record};
+use std::io::{self, Write};
 
 // The places of a case's numbers; a step leads from an endpoint's address, or from a language, to the next.
 const PACKET: usize = 0;
@@ -122,29 +122,31 @@ fn number(c: [u8; NUMBERS]) -> u8 {
 }
 
 // Says where an answer is another than the last one, and what it is.
-fn tell(n: u16, last: u8, answer: u8) -> u8 {
+fn tell<R: Print>(rt: &R, n: u16, last: u8, answer: u8) -> io::Result<u8> {
     if answer != last {
-        io::print_decimal(STDOUT_FILENO, n as u64);
-        io::write_all(STDOUT_FILENO, b":");
-        io::print_decimal(STDOUT_FILENO, answer as u64);
-        io::write_all(STDOUT_FILENO, b" ");
+        print!(rt; "{n}:{answer} ")?;
     }
-    answer
+    Ok(answer)
 }
 
 // A number of a case runs from `low` to below `end`.
-fn row(name: &[u8], what: usize, low: u16, end: u16, case: [u8; NUMBERS])
+fn row<R: Print>(
+    rt: &R,
+    name: &[u8],
+    what: usize,
+    low: u16,
+    end: u16,
+    case: [u8; NUMBERS],
+) -> io::Result<()>
     requires { what < 10 }
 {
     let mut c = case;
     let mut last: u8 = 255;
-    let mut n = low;
-    while n < end {
+    for n in low..end {
         c[what] = (n % 256) as u8;
-        last = tell(n, last, number(c));
-        n += 1;
+        last = tell(rt, n, last, number(c))?;
     }
-    io::write_all(STDOUT_FILENO, name);
+    io::writer(rt).write_all(name)
 }
 
 // One endpoint, one language with a string of one unit: nothing refuses it.
@@ -158,31 +160,31 @@ const STILL: [u8; NUMBERS] = [8, 50, 1, 1, 0x01, 64, 0, 1, 0, 1];
 const BAD: [u8; NUMBERS] = [7, 251, 0, 0, 0x81, 64, 0, 0, 1, 1];
 
 // Refusals 1 and 2.
-fn plans() {
-    row(b"packet sizes\n", PACKET, 0, 256, GOOD);
-    row(b"powers\n", POWER, 0, 256, GOOD);
-    row(b"interfaces\n", INTERFACES, 0, 6, MUTE);
-    row(b"endpoints\n", ENDPOINTS, 0, 10, GOOD);
-    row(b"packet sizes, all rules broken\n", PACKET, 0, 256, BAD);
+fn plans<R: Print>(rt: &R) -> io::Result<()> {
+    row(rt, b"packet sizes\n", PACKET, 0, 256, GOOD)?;
+    row(rt, b"powers\n", POWER, 0, 256, GOOD)?;
+    row(rt, b"interfaces\n", INTERFACES, 0, 6, MUTE)?;
+    row(rt, b"endpoints\n", ENDPOINTS, 0, 10, GOOD)?;
+    row(rt, b"packet sizes, all rules broken\n", PACKET, 0, 256, BAD)
 }
 
-fn endpoints() {
-    row(b"endpoint addresses\n", ADDRESS, 0, 256, GOOD);
-    row(b"endpoint sizes\n", SIZE, 0, 256, GOOD);
-    row(b"interfaces of an endpoint\n", OWNER, 0, 256, GOOD);
-    row(b"endpoints of one address\n", ENDPOINTS, 0, 3, STILL);
+fn endpoints<R: Print>(rt: &R) -> io::Result<()> {
+    row(rt, b"endpoint addresses\n", ADDRESS, 0, 256, GOOD)?;
+    row(rt, b"endpoint sizes\n", SIZE, 0, 256, GOOD)?;
+    row(rt, b"interfaces of an endpoint\n", OWNER, 0, 256, GOOD)?;
+    row(rt, b"endpoints of one address\n", ENDPOINTS, 0, 3, STILL)
 }
 
 // Refusal 3.
-fn languages() {
-    row(b"languages\n", LANGUAGES, 0, 6, MUTE);
-    row(b"languages, one with a string\n", LANGUAGES, 0, 6, GOOD);
-    row(b"languages of one number\n", LANGUAGES, 0, 3, STILL);
-    row(b"units of a string\n", UNITS, 0, 33, GOOD);
+fn languages<R: Print>(rt: &R) -> io::Result<()> {
+    row(rt, b"languages\n", LANGUAGES, 0, 6, MUTE)?;
+    row(rt, b"languages, one with a string\n", LANGUAGES, 0, 6, GOOD)?;
+    row(rt, b"languages of one number\n", LANGUAGES, 0, 3, STILL)?;
+    row(rt, b"units of a string\n", UNITS, 0, 33, GOOD)
 }
 
-fn main() {
-    plans();
-    endpoints();
-    languages();
+fn main(rt: HostRuntime) -> io::Result<()> {
+    plans(&rt)?;
+    endpoints(&rt)?;
+    languages(&rt)
 }

@@ -9,8 +9,8 @@ ghost use Rattle.std.specs.Prelude.{◌≡◌};
 ghost use Rattle.common.specs.Bytes.{stored};
 
 use device::Device;
-use libc::{STDERR_FILENO, STDIN_FILENO, STDOUT_FILENO};
 use records::EVENT;
+use std::io::{self, Read, Write};
 
 // The bytes of a read, and the rooms of the trace entries and the lines of the 819 event records in them.
 const READ: usize = 65536;
@@ -20,7 +20,7 @@ const TRACE: usize = 67158;
 const OUT: usize = 551213;
 
 // Where a replay stands: the next number, how many records the last call took, how many bytes of a partial one are held.
-#[derive(Drop)]
+#[derive(Clone, Copy)]
 struct Place {
     device: Device,
     number: u64,
@@ -43,7 +43,7 @@ fn ended(p: Place) -> Place {
 }
 
 // Reads once, behind the bytes that are held.
-fn fill(buf: &mut [u8], held: usize) -> Filled {
+fn fill<R: Read, E: Eprint>(input: &mut R, rt: &E, buf: &mut [u8], held: usize) -> Filled {
     let failed = Filled {
         total: held,
         failed: true,
@@ -51,46 +51,50 @@ fn fill(buf: &mut [u8], held: usize) -> Filled {
     if buf.len() < held {
         return failed;
     }
-    let got = libc::read(STDIN_FILENO, &mut buf[held..]);
-    if got < 0 {
-        io::write_all(STDERR_FILENO, b"replay: standard input cannot be read\n");
-        return failed;
-    }
-    let n = io::count(got, &buf[held..]);
-    Filled {
-        total: held + n,
-        failed: false,
+    match input.read(&mut buf[held..]) {
+        Ok(n) => Filled {
+            total: held + n,
+            failed: false,
+        },
+        Err(_) => {
+            let _ = eprintln!(rt; "replay: standard input cannot be read");
+            failed
+        }
     }
 }
 
 // Writes the first n bytes out, and says whether that could be done.
-fn put(out: &[u8], n: usize) -> bool {
+fn put<R: Print + Eprint>(rt: &R, out: &[u8], n: usize) -> bool {
     if out.len() < n {
         return false;
     }
-    let good = io::write_all(STDOUT_FILENO, &out[..n]);
+    let good = io::writer(rt).write_all(&out[..n]).is_ok();
     if !good {
-        io::write_all(
-            STDERR_FILENO,
-            b"replay: standard output cannot be written\n",
-        );
+        let _ = eprintln!(rt; "replay: standard output cannot be written");
     }
     good
 }
 
 // The lines of the first n bytes.
-fn tell(p: Place, buf: &[u8], n: usize, trace: &mut [u8], out: &mut [u8]) -> Place {
+fn tell<R: Print + Eprint>(
+    rt: &R,
+    p: Place,
+    buf: &[u8],
+    n: usize,
+    trace: &mut [u8],
+    out: &mut [u8],
+) -> Place {
     if buf.len() < n {
         return ended(p);
     }
     let device = p.device;
     let printed = lines::print(device, &[], p.number, &buf[..n], trace, out);
-    let good = put(out, printed.written);
+    let good = put(rt, out, printed.written);
     let why = printed.refusal;
     let next = printed.device;
     Place {
         device: next,
-        number: std::num::wrapping_add_u64(p.number, printed.count as u64),
+        number: p.number.wrapping_add(printed.count as u64),
         taken: printed.count,
         held: 0,
         going: good && why.number() == 0,
@@ -124,21 +128,35 @@ fn keep(p: Place, buf: &mut [u8], total: usize) -> Place {
 }
 
 // One read, and the lines of the records that are whole by then; at the end of the input also of one that is not.
-fn turn(p: Place, buf: &mut [u8], trace: &mut [u8], out: &mut [u8]) -> Place {
-    let filled = fill(buf, p.held);
+fn turn<I: Read, R: Print + Eprint>(
+    input: &mut I,
+    rt: &R,
+    p: Place,
+    buf: &mut [u8],
+    trace: &mut [u8],
+    out: &mut [u8],
+) -> Place {
+    let filled = fill(input, rt, buf, p.held);
     let total = filled.total;
     if filled.failed {
         return ended(p);
     }
     if total == p.held {
-        return ended(tell(p, buf, total, trace, out));
+        return ended(tell(rt, p, buf, total, trace, out));
     }
-    let next = tell(p, buf, total - total % EVENT, trace, out);
+    let next = tell(rt, p, buf, total - total % EVENT, trace, out);
     keep(next, buf, total)
 }
 
 // A proved loop has to end, and nothing says that an input does: it counts down from a number that no run uses up.
-fn replay(device: Device, buf: &mut [u8], trace: &mut [u8], out: &mut [u8]) {
+fn replay<I: Read, R: Print + Eprint>(
+    input: &mut I,
+    rt: &R,
+    device: Device,
+    buf: &mut [u8],
+    trace: &mut [u8],
+    out: &mut [u8],
+) {
     let mut p = Place {
         device,
         number: 1,
@@ -148,16 +166,28 @@ fn replay(device: Device, buf: &mut [u8], trace: &mut [u8], out: &mut [u8]) {
     };
     let mut turns = u64::MAX;
     while 0 < turns && p.going {
-        p = turn(p, buf, trace, out);
+        p = turn(input, rt, p, buf, trace, out);
         turns -= 1;
     }
 }
 
-fn main() {
+// The room of the lines: a function pays for the size of its locals, so `main` takes it from here.
+fn lines_room() -> [u8; OUT] {
+    [0u8; OUT]
+}
+
+fn main(rt: HostRuntime) {
     let built = Device::build(pan::noted(), 0);
     let device = built.device;
     let mut buf = [0u8; READ];
     let mut trace = [0u8; TRACE];
-    let mut out = [0u8; OUT];
-    replay(device, &mut buf, &mut trace, &mut out);
+    let mut out = lines_room();
+    replay(
+        &mut rt.reader(),
+        &rt,
+        device,
+        &mut buf,
+        &mut trace,
+        &mut out,
+    );
 }

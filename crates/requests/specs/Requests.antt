@@ -1,8 +1,7 @@
 -- USB 2.0 section 9.4 and document 01, module 4: how each request is answered.
-use Rattle.std.specs.Prelude.{ℕ, ◌+◌, ◌-◌, ◌*◌, ◌/◌, ◌%◌, ◌^◌, Bool, true, false, cond, ◌&&◌, List, [], ◌∷◌, eqb, leb, ltb}
+use Rattle.std.specs.Prelude.{ℕ, ◌+◌, ◌-◌, ◌*◌, ◌/◌, ◌%◌, ◌^◌, Bool, true, false, cond, ◌&&◌, eqb, leb, ltb}
 use Rattle.std.specs.Int.Bits.{bit_and, bit_or}
 use Rattle.common.specs.Lists.{between}
-use Rattle.control.specs.declared.BusAddress.{BusAddress}
 use Rattle.control.specs.declared.EndpointAddress.{EndpointAddress}
 use Rattle.control.specs.declared.TileNumber.{TileNumber}
 use Rattle.control.specs.declared.Direction.{Direction}

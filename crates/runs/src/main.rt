@@ -8,6 +8,7 @@ use control::{EndpointAddress, Parsed, Request};
 use descriptor::Written;
 use plan::{Basics, Endpoint, Interface, Kind, Plan};
 use record::{Name, Record};
+use std::io;
 
 // The device of notes 4 to 6: "Pan" for strings 1 and 2 of language 0409h, one interface with one endpoint.
 fn pan() -> Record {
@@ -50,14 +51,14 @@ fn plain() -> Plan {
 }
 
 // Notes 1 to 3: what a SETUP packet says.
-fn setup(note: u64, packet: &[u8]) {
-    say::number(note);
+fn setup<R: Print>(rt: &R, note: u64, packet: &[u8]) -> io::Result<()> {
+    say::number(rt, note)?;
     let answer = Request::parse(packet);
     match answer {
-        Parsed::Good(r) => say::request(r),
-        Parsed::Refused(why) => say::refusal(why),
+        Parsed::Good(r) => say::request(rt, r)?,
+        Parsed::Refused(why) => say::refusal(rt, why)?,
     }
-    say::line();
+    say::line(rt)
 }
 
 const FIRST: [u8; 8] = [0x80, 0x06, 0x00, 0x01, 0x00, 0x00, 0x40, 0x00];
@@ -69,12 +70,12 @@ const RESERVED: [u8; 8] = [0x64, 0, 0, 0, 0, 0, 0, 0];
 const OTHER: [u8; 8] = [0xc3, 0, 0, 0, 0, 0, 0, 0];
 
 // In note 3, seven bytes and nine.
-fn setups() {
-    setup(1, &FIRST);
-    setup(2, &RESERVED);
-    setup(2, &OTHER);
-    setup(3, &FIRST[..7]);
-    setup(3, &LONGER);
+fn setups<R: Print>(rt: &R) -> io::Result<()> {
+    setup(rt, 1, &FIRST)?;
+    setup(rt, 2, &RESERVED)?;
+    setup(rt, 2, &OTHER)?;
+    setup(rt, 3, &FIRST[..7])?;
+    setup(rt, 3, &LONGER)
 }
 
 // Note 4 asks for the device descriptor, note 5 for the configuration, any other for a string.
@@ -89,28 +90,28 @@ fn ask(note: u64, string: u8, buf: &mut [u8], at: usize) -> Written {
 }
 
 // Notes 4 to 6: how many bytes a descriptor has, and what a room of 28 bytes EEh holds then.
-fn written(note: u64, string: u8, at: usize) {
+fn written<R: Print>(rt: &R, note: u64, string: u8, at: usize) -> io::Result<()> {
     let mut room = [0xeeu8; 28];
-    say::number(note);
+    say::number(rt, note)?;
     let answer = ask(note, string, &mut room, at);
     match answer {
-        Written::Bytes(n) => say::next(n as u64),
-        Written::Missing => say::word(b"missing"),
-        Written::Refused(why) => say::refusal(why),
+        Written::Bytes(n) => say::next(rt, n as u64)?,
+        Written::Missing => say::word(rt, b"missing")?,
+        Written::Refused(why) => say::refusal(rt, why)?,
     }
-    say::hex(&room);
-    say::line();
+    say::hex(rt, &room)?;
+    say::line(rt)
 }
 
 // Beside the notes: strings that are not there, and the language list at the last place that holds it, and behind it.
-fn main() {
-    setups();
-    written(4, 0, 0);
-    written(5, 0, 0);
-    written(6, 1, 0);
-    written(6, 0, 0);
-    written(0, 3, 0);
-    written(0, 4, 0);
-    written(0, 0, 24);
-    written(0, 0, 25);
+fn main(rt: HostRuntime) -> io::Result<()> {
+    setups(&rt)?;
+    written(&rt, 4, 0, 0)?;
+    written(&rt, 5, 0, 0)?;
+    written(&rt, 6, 1, 0)?;
+    written(&rt, 6, 0, 0)?;
+    written(&rt, 0, 3, 0)?;
+    written(&rt, 0, 4, 0)?;
+    written(&rt, 0, 0, 24)?;
+    written(&rt, 0, 0, 25)
 }

@@ -1,56 +1,50 @@
 // Words and numbers on standard output.
 use common::Refusal;
 use control::{Direction, Recipient, Request, RequestType};
-use libc::STDOUT_FILENO;
+use std::io::{self, Write};
 
-pub(crate) fn number(n: u64) {
-    io::print_decimal(STDOUT_FILENO, n);
+pub(crate) fn number<R: Print>(rt: &R, n: u64) -> io::Result<()> {
+    print!(rt; "{n}")
 }
 
 // A word after a space.
-pub(crate) fn word(text: &[u8]) {
-    io::write_all(STDOUT_FILENO, b" ");
-    io::write_all(STDOUT_FILENO, text);
+pub(crate) fn word<R: Print>(rt: &R, text: &[u8]) -> io::Result<()> {
+    print!(rt; " ")?;
+    io::writer(rt).write_all(text)
 }
 
-pub(crate) fn line() {
-    io::write_all(STDOUT_FILENO, b"\n");
+pub(crate) fn line<R: Print>(rt: &R) -> io::Result<()> {
+    println!(rt;)
 }
 
 // A number after a space.
-pub(crate) fn next(n: u64) {
-    io::write_all(STDOUT_FILENO, b" ");
-    number(n);
+pub(crate) fn next<R: Print>(rt: &R, n: u64) -> io::Result<()> {
+    print!(rt; " ")?;
+    number(rt, n)
 }
 
-pub(crate) fn refusal(why: Refusal) {
-    word(b"refused");
-    next(why.number() as u64);
+pub(crate) fn refusal<R: Print>(rt: &R, why: Refusal) -> io::Result<()> {
+    word(rt, b"refused")?;
+    next(rt, why.number() as u64)
 }
 
-pub(crate) fn hex(buf: &[u8]) {
-    let mut i: usize = 0;
-    while i < buf.len() {
-        io::write_all(STDOUT_FILENO, b" ");
-        io::print_hex(STDOUT_FILENO, wide(buf[i]), 2);
-        i += 1;
+pub(crate) fn hex<R: Print>(rt: &R, buf: &[u8]) -> io::Result<()> {
+    for &b in buf {
+        print!(rt; " {b:02x}")?;
     }
-}
-
-fn wide(b: u8) -> u64 {
-    b as u64
+    Ok(())
 }
 
 // Direction, type and recipient, by a letter each, then the numbers.
-pub(crate) fn request(r: Request) {
+pub(crate) fn request<R: Print>(rt: &R, r: Request) -> io::Result<()> {
     let direction = r.direction;
     let kind = r.kind;
     let recipient = r.recipient;
-    word(&[direct(direction), typed(kind), receive(recipient)]);
-    next(r.request as u64);
-    next(r.value as u64);
-    next(r.index as u64);
-    next(r.length as u64);
+    word(rt, &[direct(direction), typed(kind), receive(recipient)])?;
+    next(rt, r.request as u64)?;
+    next(rt, r.value as u64)?;
+    next(rt, r.index as u64)?;
+    next(rt, r.length as u64)
 }
 
 fn direct(d: Direction) -> u8 {

@@ -1,18 +1,18 @@
 -- No string of a good record is longer than its units allow. Assumes nothing.
 use Prim.Native.Nat.{ℕ, ◌+◌, ◌-◌, ◌*◌, ◌≤◌, ◌<◌}
-use mathlib.Core.Bool.{Bool, true, false, cond}
-use mathlib.Core.Path.{◌≡◌, refl, sym, ap, subst, ◌∙◌}
-use mathlib.Core.List.{List, [], ◌∷◌}
+use mathlib.Core.Bool.{true}
+use mathlib.Core.Path.{◌≡◌, refl}
+use mathlib.Core.List.{List}
 use mathlib.Core.Option.{Option, some, none, map, none-ne-some, some-injective}
 use native.Mathlib.Omega.{arith}
 use borrow.Author.Tests.{leb-true}
 use lib.Dec.{eqb, leb}
 use lib.ListN.{length, get_or, take, drop}
 use Rattle.common.specs.Bytes.{part}
-use Rattle.common.specs.Lists.{between, every}
+use Rattle.common.specs.Lists.{between}
 use Rattle.common.proofs.Laws.{cond-elim, and_left, and_right, at_most}
 use Rattle.common.proofs.Lists.{every-at}
-use Rattle.record.specs.Sizes.{names, unit_room, language_room}
+use Rattle.record.specs.Sizes.{names, unit_room}
 use Rattle.record.specs.Filling.{slot_of}
 use Rattle.limits.specs.Limits.{length_fine, languages_fine}
 use Rattle.limits.proofs.Good.{Tongues, tongue-facts}

@@ -4,13 +4,18 @@
 // What it prints is held to the file stdout, which model/transfers.py made from document 01.
 #![tactic(auto)]
 
+ghost use Rattle.std.specs.Prelude.{IfOk, ◌≤◌, length};
+
 use control::EndpointAddress;
 use control_pipe::BUFFER;
 use device::Device;
-use libc::{STDIN_FILENO, STDOUT_FILENO};
 use plan::{Basics, Endpoint, Interface, Kind, Plan};
 use record::{Name, Record};
+use std::io::{self, Read};
 use stream::ENTRY;
+
+// The bytes of standard input that are replayed, and the room of the trace entries.
+const ROOM: usize = 65536;
 
 // The device of notes 4 to 6, of a packet size.
 fn pan(packet: u8) -> Record {
@@ -68,71 +73,84 @@ fn used(s: &[u8]) -> usize {
     0
 }
 
-fn two(b: u8) {
-    io::print_hex(STDOUT_FILENO, b as u64, 2);
+fn two<R: Print>(rt: &R, b: u8) -> io::Result<()> {
+    print!(rt; "{b:02x}")
 }
 
-fn byte(s: &[u8], i: usize) {
+fn byte<R: Print>(rt: &R, s: &[u8], i: usize) -> io::Result<()> {
     if i < s.len() {
-        two(s[i]);
+        two(rt, s[i])?;
     }
+    Ok(())
 }
 
-fn hex(s: &[u8], n: usize) {
-    let mut i: usize = 0;
-    while i < n {
-        byte(s, i);
-        i += 1;
+fn hex<R: Print>(rt: &R, s: &[u8], n: usize) -> io::Result<()> {
+    for i in 0..n {
+        byte(rt, s, i)?;
     }
+    Ok(())
 }
 
-fn entry(trace: &[u8], i: usize) {
+fn entry<R: Print>(rt: &R, trace: &[u8], i: usize) -> io::Result<()> {
     if trace.len() / ENTRY <= i {
-        return;
+        return Ok(());
     }
     let s = &trace[ENTRY * i..ENTRY * i + ENTRY];
-    hex(s, used(s));
-    io::write_all(STDOUT_FILENO, b"\n");
+    hex(rt, s, used(s))?;
+    println!(rt;)
 }
 
-fn entries(trace: &[u8], count: usize) {
-    let mut i: usize = 0;
-    while i < count {
-        entry(trace, i);
-        i += 1;
+fn entries<R: Print>(rt: &R, trace: &[u8], count: usize) -> io::Result<()> {
+    for i in 0..count {
+        entry(rt, trace, i)?;
     }
+    Ok(())
 }
 
-fn number(n: u64) {
-    io::print_decimal(STDOUT_FILENO, n);
-    io::write_all(STDOUT_FILENO, b" ");
+fn number<R: Print>(rt: &R, n: u64) -> io::Result<()> {
+    print!(rt; "{n} ")
 }
 
-fn replay(packet: u8, events: &[u8]) {
+fn replay<R: Print>(rt: &R, packet: u8, events: &[u8]) -> io::Result<()> {
     let built = Device::build(pan(packet), 48);
     let device = built.device;
-    let mut trace = io::large_buffer();
+    let mut trace = [0u8; ROOM];
     let ran = stream::run(device, &TILES, events, &mut trace);
     let why = ran.refusal;
     let next = ran.device;
     let mut room = [0u8; BUFFER];
     let handed = next.data(&mut room);
     let denied = handed.refusal;
-    entries(&trace, ran.count);
-    number(packet as u64);
-    number(ran.count as u64);
-    number(why.number() as u64);
-    number(handed.count as u64);
-    number(denied.number() as u64);
-    hex(&room, handed.count);
-    io::write_all(STDOUT_FILENO, b"\n");
+    entries(rt, &trace, ran.count)?;
+    number(rt, packet as u64)?;
+    number(rt, ran.count as u64)?;
+    number(rt, why.number() as u64)?;
+    number(rt, handed.count as u64)?;
+    number(rt, denied.number() as u64)?;
+    hex(rt, &room, handed.count)?;
+    println!(rt;)
 }
 
-fn main() {
-    let mut events = io::large_buffer();
-    let n = io::read_full(STDIN_FILENO, &mut events);
-    replay(8, &events[..n]);
-    replay(16, &events[..n]);
-    replay(32, &events[..n]);
-    replay(64, &events[..n]);
+// Reads until the buffer is full or the input ends: how many bytes of it were read.
+fn read_full<R: Read>(input: &mut R, buf: &mut [u8]) -> io::Result<usize>
+    ensures { IfOk result (λ n. n ≤ length buf.new) }
+{
+    let mut done: usize = 0;
+    while done < buf.len() {
+        let n = input.read(&mut buf[done..])?;
+        if n == 0 {
+            break;
+        }
+        done += n;
+    }
+    Ok(done)
+}
+
+fn main(rt: HostRuntime) -> io::Result<()> {
+    let mut events = [0u8; ROOM];
+    let n = read_full(&mut rt.reader(), &mut events)?;
+    replay(&rt, 8, &events[..n])?;
+    replay(&rt, 16, &events[..n])?;
+    replay(&rt, 32, &events[..n])?;
+    replay(&rt, 64, &events[..n])
 }

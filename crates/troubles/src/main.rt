@@ -4,9 +4,14 @@
 // What it prints is held to the file stdout, which model/replay.py made from document 01.
 #![tactic(auto)]
 
+ghost use Rattle.std.specs.Prelude.{IfOk, ◌≤◌, length};
+
 use device::Device;
-use libc::{STDIN_FILENO, STDOUT_FILENO};
 use records::EVENT;
+use std::io::{self, Read, Write};
+
+// The bytes of standard input that are replayed.
+const ROOM: usize = 65536;
 
 // The bytes before a stream.
 const HEAD: usize = 10;
@@ -25,10 +30,11 @@ struct Place {
     going: bool,
 }
 
-fn put(out: &[u8], n: usize) {
-    if n <= out.len() {
-        io::write_all(STDOUT_FILENO, &out[..n]);
+fn put<R: Print>(rt: &R, out: &[u8], n: usize) -> io::Result<()> {
+    if out.len() < n {
+        return Ok(());
     }
+    io::writer(rt).write_all(&out[..n])
 }
 
 // The place behind so many records, the end at most.
@@ -43,27 +49,27 @@ fn after(at: usize, count: usize, len: usize) -> usize {
 }
 
 // One call, and its lines.
-fn tell(p: Place, events: &[u8]) -> Place {
+fn tell<R: Print>(rt: &R, p: Place, events: &[u8]) -> io::Result<Place> {
     let at = p.at;
     if events.len() < at {
-        return p;
+        return Ok(p);
     }
     let mut trace = [0u8; TRACE];
     let mut out = [0u8; OUT];
     let device = p.device;
     let printed = lines::print(device, &[], p.number, &events[at..], &mut trace, &mut out);
-    put(&out, printed.written);
+    put(rt, &out, printed.written)?;
     let why = printed.refusal;
     let next = printed.device;
-    Place {
+    Ok(Place {
         device: next,
-        number: std::num::wrapping_add_u64(p.number, printed.count as u64),
+        number: p.number.wrapping_add(printed.count as u64),
         at: after(at, printed.count, events.len()),
         going: why.number() == 0 && 0 < printed.count,
-    }
+    })
 }
 
-fn stream(number: u64, events: &[u8]) {
+fn stream<R: Print>(rt: &R, number: u64, events: &[u8]) -> io::Result<()> {
     let built = Device::build(pan::noted(), 0);
     let device = built.device;
     let mut p = Place {
@@ -74,10 +80,10 @@ fn stream(number: u64, events: &[u8]) {
     };
     let mut turns = u64::MAX;
     while 0 < turns && p.going {
-        p = tell(p, events);
+        p = tell(rt, p, events)?;
         turns -= 1;
     }
-    io::write_all(STDOUT_FILENO, b"-\n");
+    println!(rt; "-")
 }
 
 fn word(s: &[u8], at: usize) -> u16 {
@@ -96,18 +102,18 @@ fn number(a: u16, b: u16, c: u16, d: u16) -> u64 {
 }
 
 // The stream at a place; returns the place behind it.
-fn next(buf: &[u8], at: usize) -> usize {
+fn next<R: Print>(rt: &R, buf: &[u8], at: usize) -> io::Result<usize> {
     let end = buf.len();
     if end <= at {
-        return end;
+        return Ok(end);
     }
     if end - at < HEAD {
-        return end;
+        return Ok(end);
     }
     let n = word(buf, at + 8) as usize;
     let from = at + HEAD;
     if end - from < n {
-        return end;
+        return Ok(end);
     }
     let first = number(
         word(buf, at),
@@ -115,21 +121,37 @@ fn next(buf: &[u8], at: usize) -> usize {
         word(buf, at + 4),
         word(buf, at + 6),
     );
-    stream(first, &buf[from..from + n]);
-    from + n
+    stream(rt, first, &buf[from..from + n])?;
+    Ok(from + n)
 }
 
-fn all(buf: &[u8]) {
+fn all<R: Print>(rt: &R, buf: &[u8]) -> io::Result<()> {
     let mut at: usize = 0;
     let mut turns = u64::MAX;
     while 0 < turns && at < buf.len() {
-        at = next(buf, at);
+        at = next(rt, buf, at)?;
         turns -= 1;
     }
+    Ok(())
 }
 
-fn main() {
-    let mut buf = io::large_buffer();
-    let n = io::read_full(STDIN_FILENO, &mut buf);
-    all(&buf[..n]);
+// Reads until the buffer is full or the input ends: how many bytes of it were read.
+fn read_full<R: Read>(input: &mut R, buf: &mut [u8]) -> io::Result<usize>
+    ensures { IfOk result (λ n. n ≤ length buf.new) }
+{
+    let mut done: usize = 0;
+    while done < buf.len() {
+        let n = input.read(&mut buf[done..])?;
+        if n == 0 {
+            break;
+        }
+        done += n;
+    }
+    Ok(done)
+}
+
+fn main(rt: HostRuntime) -> io::Result<()> {
+    let mut buf = [0u8; ROOM];
+    let n = read_full(&mut rt.reader(), &mut buf)?;
+    all(&rt, &buf[..n])
 }

@@ -100,7 +100,8 @@ fn ended<'r>(
 
 // A writer at the start of a lent buffer.
 pub fn new<'a>(buf: &'a mut [u8]) -> Writer<'a>
-    ensures { result ≡ begun buf.entry }
+    ensures value { result ≡ begun buf.entry }
+    ensures same_borrow { result.buf.ghost_name ≡ buf.entry.ghost_name }
 {
     Writer { buf: buf, at: 0 }
 }
@@ -114,7 +115,8 @@ pub fn append<'a, 'r>(
     units: &'r [u16; TEXT],
     which: Which,
 ) -> Writer<'a>
-    ensures { result ≡ appended w.entry (lowest plan ids.now lens.now) (asked (parts plan ids.now lens.now units.now) which) }
+    ensures value { result ≡ appended w.entry (lowest plan ids.now lens.now) (asked (parts plan ids.now lens.now units.now) which) }
+    ensures same_borrow { result.buf.ghost_name ≡ w.entry.buf.ghost_name }
 {
     let at = w.at;
     let after = next(&mut *w.buf, at, plan, ids, lens, units, which);
