@@ -55,10 +55,8 @@ fn with_interfaces(plan: Plan, n: u8) -> Plan {
         protocol: 0,
     };
     let mut p = plan;
-    let mut i: u8 = 0;
-    while i < n {
+    for _ in 0..n {
         p = p.with_interface(x);
-        i += 1;
     }
     p
 }
@@ -67,12 +65,10 @@ fn with_interfaces(plan: Plan, n: u8) -> Plan {
 fn with_endpoints(plan: Plan, first: Endpoint, n: u8, step: u8) -> Plan {
     let mut p = plan;
     let mut e = first;
-    let mut i: u8 = 0;
-    while i < n {
+    for _ in 0..n {
         p = p.with_endpoint(e);
         let a = EndpointAddress(e.address.0 % 128 + step % 128);
         e.address = a;
-        i += 1;
     }
     p
 }
@@ -81,11 +77,9 @@ fn with_endpoints(plan: Plan, first: Endpoint, n: u8, step: u8) -> Plan {
 fn with_languages(plan: Plan, n: u8, step: u16) -> Record {
     let mut r = Record::new(plan);
     let mut id: u16 = 0;
-    let mut i: u8 = 0;
-    while i < n {
+    for _ in 0..n {
         r = r.with_language(id);
         id = id % 256 + step % 256;
-        i += 1;
     }
     r
 }

@@ -3,7 +3,7 @@ use Prim.Native.Nat.{ℕ}
 use mathlib.Core.List.{List}
 use mathlib.Core.Option.{Option}
 use mathlib.Core.Path.{◌≡◌}
-use denote.Ref.{Bor}
+use denote.MutBor.{MutBor}
 use Rattle.common.proofs.Once.{Once, equal, equals}
 use Rattle.descriptor.specs.declared.Written.{Written}
 use Rattle.writer.specs.declared.Writer.{Writer}
@@ -11,7 +11,7 @@ use Rattle.writer.specs.Appending.{begun, appended, Position}
 use Rattle.writer.proofs.fill.Reads as fill
 use Rattle.writer.proofs.write.Reads as write
 
-pub new-once : (buf : Bor (List ℕ)) (r r' : Writer) → r ≡ begun buf → r' ≡ begun buf → r ≡ r'
+pub new-once : (buf : MutBor (List ℕ)) (r r' : Writer) → r ≡ begun buf → r' ≡ begun buf → r ≡ r'
 new-once buf r r' = equal
 
 pub append-once : (w : Writer) (number : ℕ) (answer : Option (List ℕ)) (r r' : Writer) → r ≡ appended w number answer → r' ≡ appended w number answer → r ≡ r'

@@ -115,8 +115,7 @@ pub fn append<'a, 'r>(
     units: &'r [u16; TEXT],
     which: Which,
 ) -> Writer<'a>
-    ensures value { result ≡ appended w.entry (lowest plan ids.now lens.now) (asked (parts plan ids.now lens.now units.now) which) }
-    ensures same_borrow { result.buf.ghost_name ≡ w.entry.buf.ghost_name }
+    ensures { result ≡ appended w.entry (lowest plan ids.now lens.now) (asked (parts plan ids.now lens.now units.now) which) }
 {
     let at = w.at;
     let after = next(&mut *w.buf, at, plan, ids, lens, units, which);
@@ -145,8 +144,9 @@ pub fn fill<'r>(
 ) -> usize
     ensures { Next result buf.new (lowest plan ids.now lens.now) (asked (parts plan ids.now lens.now units.now) which) buf.old 0 }
 {
-    let w = append(new(buf), plan, ids, lens, units, which);
-    w.at
+    let w = new(buf);
+    let at = w.at;
+    next(&mut *w.buf, at, plan, ids, lens, units, which)
 }
 
 // The same, and why where none is written.

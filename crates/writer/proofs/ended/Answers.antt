@@ -1,6 +1,5 @@
 use mathlib.Core.Path.{refl}
 use borrow.Author.Tests.{ne_eqb}
-use borrow.Author.Rules.{rules}
 use Rattle.writer.specs.Appending.{ended_at}
 use Rattle.writer.proofs.ended.Goals as goal
 

@@ -1,6 +1,5 @@
 use Rattle.limits.proofs.Good.{told_none, told-some}
 use Rattle.descriptor.proofs.Laws.{wrote-refused, wrote-put, put-missing}
-use borrow.Author.Rules.{rules}
 use Rattle.writer.proofs.missing.Goals as goal
 
 pub returns-then-number-ne0 : goal.returns-then-number-ne0

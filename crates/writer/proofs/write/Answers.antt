@@ -1,4 +1,3 @@
-use borrow.Author.Rules.{rules}
 use Rattle.limits.specs.Limits.{lowest}
 use Rattle.writer.specs.Descriptors.{parts, asked}
 use Rattle.writer.proofs.Laws.{wrote-ended}
