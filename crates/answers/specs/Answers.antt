@@ -2,7 +2,6 @@
 use Rattle.std.specs.Prelude.{ℕ, ◌/◌, ◌%◌, cond, List, [], ◌∷◌, ◌≡◌, eqb, length, drop}
 use Rattle.std.proofs.Math.Option.{Option, some, none}
 use Rattle.common.specs.Bytes.{placed}
-use Rattle.common.specs.declared.Refusal.{Refusal}
 use Rattle.control.specs.declared.Request.{Request}
 use Rattle.record.specs.declared.Record.{Record}
 use Rattle.limits.specs.Limits.{lowest}

@@ -1,7 +1,7 @@
 -- Laws of the second half of an event that the proofs cite. Assumes nothing.
 use Prim.Native.Nat.{ℕ}
 use mathlib.Core.Bool.{Bool, true, false, cond, not, ◌&&◌}
-use mathlib.Core.Path.{◌≡◌, refl, sym, ap, ◌∙◌}
+use mathlib.Core.Path.{◌≡◌, sym, ap, ◌∙◌}
 use mathlib.Core.List.{List, []}
 use lib.Dec.{eqb}
 use Rattle.common.specs.Bytes.{front}

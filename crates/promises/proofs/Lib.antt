@@ -4,6 +4,7 @@ pub mod Cut
 pub mod Fault
 pub mod Good
 pub mod Halts
+pub mod Later
 pub mod Reset
 pub mod Sent
 pub mod Transfer

@@ -17,7 +17,7 @@ use Rattle.device.specs.declared.Device.{Device}
 use Rattle.device.specs.declared.Stepped.{Stepped}
 use Rattle.device.specs.Device.{refused_by, stepped_to}
 use Rattle.steady.proofs.Usable.{usable, step-taken}
-use Rattle.promises.specs.History.{Moment, happens, after, seen}
+use Rattle.promises.specs.History.{happens, after}
 
 -- a device that a reset leaves
 abbrev restarted_of : Record → Bool → ℕ → Device
@@ -46,8 +46,3 @@ pub reset-forgets : (d d' : Device) (book s room : List ℕ) → d.profile ≡ d
     → after d (happens Reset book s room) ≡ after d' (happens Reset book s room)
 reset-forgets d d' book s room p q z z' =
     reset-device d book s room z ∙ (ap₂ (λ (r : Record) (b : Bool). restarted_of r b (length book)) p q ∙ sym (reset-device d' book s room z'))
-
--- So nothing that happens later can show what was before the reset: no answer, no packet, no byte handed out, no refusal.
-pub reset-seen : (d d' : Device) (book s room : List ℕ) → d.profile ≡ d'.profile → d.live.kept.powered ≡ d'.live.kept.powered → refused_by d book room ≡ 0 → refused_by d' book room ≡ 0
-    → (ms : List Moment) → seen (after d (happens Reset book s room)) ms ≡ seen (after d' (happens Reset book s room)) ms
-reset-seen d d' book s room p q z z' ms = ap (λ (x : Device). seen x ms) (reset-forgets d d' book s room p q z z')

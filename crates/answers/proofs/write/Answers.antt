@@ -1,6 +1,5 @@
 use Rattle.answers.specs.Answers.{answer_of}
 use mathlib.Core.Path.{refl}
-use borrow.Author.Rules.{rules}
 use Rattle.answers.proofs.write.Goals as goal
 
 pub returns-in-Stall : goal.returns-in-Stall

@@ -1,0 +1,7 @@
+use Rattle.answers.specs.Answers.{answer}
+use borrow.Author.Rules.{rules}
+use Rattle.events.proofs.judge.Goals as goal
+
+pub returns : goal.returns
+unfolding answer
+returns c = rw (← c.decide-decision.ensures) c.write.ensures
