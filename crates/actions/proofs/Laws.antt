@@ -1,6 +1,5 @@
 -- Laws of the slots that the proofs cite. Assumes nothing.
 use Prim.Native.Nat.{ℕ, ◌≤◌}
-use mathlib.Core.Bool.{Bool, true, false, cond}
 use mathlib.Core.Path.{◌≡◌, refl, sym, ap, ◌∙◌}
 use mathlib.Core.List.{List, [], ◌∷◌, ◌++◌}
 use native.Mathlib.Omega.{arith}
@@ -11,7 +10,7 @@ use Rattle.control_pipe.specs.declared.Told.{Told}
 use Rattle.effects.specs.declared.Action.{Action}
 use Rattle.effects.specs.declared.Action.TheVariants.{Nothing, Resume, Suspend, Reset, UnstallOut, UnstallIn, StallOut, StallIn, Halt, Unhalt, Address, Write, Refused}
 use Rattle.effects.specs.contracts.Action.{the_type}
-use Rattle.events.specs.Events.{listed, alone, told_by}
+use Rattle.events.specs.Events.{listed, alone}
 use Rattle.actions.specs.declared.Actions.{Actions}
 use Rattle.actions.specs.Actions.{consed, laid, packed, slots}
 

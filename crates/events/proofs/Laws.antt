@@ -1,10 +1,9 @@
 -- Laws of an event that the proofs cite. Assumes nothing.
 use Prim.Native.Nat.{ℕ}
-use mathlib.Core.Bool.{Bool, true, cond, not, ◌&&◌}
-use mathlib.Core.Path.{◌≡◌, refl, sym, ap, ap₂, subst, ◌∙◌}
-use mathlib.Core.List.{List, []}
+use mathlib.Core.Bool.{Bool, true, not, ◌&&◌}
+use mathlib.Core.Path.{◌≡◌, refl, sym, ap, ap₂, subst}
+use mathlib.Core.List.{List}
 use lib.Dec.{eqb}
-use Rattle.common.specs.Bytes.{front}
 use Rattle.common.proofs.Laws.{cond-elim}
 use Rattle.record.specs.declared.Record.{Record}
 use Rattle.control_pipe.specs.declared.Stage.{Stage}
@@ -20,7 +19,7 @@ use Rattle.live.specs.declared.Live.{Live}
 use Rattle.effects.specs.declared.Half.{Half}
 use Rattle.effects.specs.Effects.{Halved, Second, with_pipe, set_out, ticked}
 use Rattle.events.specs.declared.Handled.{Handled}
-use Rattle.events.specs.Events.{Followed, Came, Done, followed, replied}
+use Rattle.events.specs.Events.{Followed, Came, followed, replied}
 
 -- the second half leaves the buffer as the first left it, but for the bytes that an answer tells
 in-buffer-at : (t : Stage) (size : ℕ) (taken : Bool) (book : List ℕ) (p : Pipe) (b : List ℕ) → (in_at t size taken book p b).buffer ≡ b

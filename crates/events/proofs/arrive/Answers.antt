@@ -1,7 +1,6 @@
 use Rattle.events.specs.Events.{arrived}
-use mathlib.Core.Path.{refl, sym, ◌∙◌}
-use borrow.Author.Tests.{eq-eqb, ne_eqb}
-use borrow.Author.Rules.{rules}
+use mathlib.Core.Path.{refl}
+use borrow.Author.Tests.{ne_eqb}
 use Rattle.events.proofs.arrive.Goals as goal
 
 pub returns-then-a-eq1 : goal.returns-then-a-eq1

@@ -1,6 +1,5 @@
 use Rattle.events.proofs.Laws.{data-came}
 use Rattle.events.specs.Events.{data_come}
-use borrow.Author.Rules.{rules}
 use Rattle.events.proofs.data_come.Goals as goal
 
 pub returns : goal.returns

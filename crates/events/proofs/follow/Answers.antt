@@ -3,8 +3,7 @@ use Rattle.answers.specs.Answers.{answer}
 use Rattle.events.proofs.Laws.{answer-followed, tick-followed}
 use Rattle.events.specs.Events.{followed}
 use Rattle.common.proofs.Laws.{front-nil}
-use mathlib.Core.Path.{refl, sym, ◌∙◌}
-use borrow.Author.Rules.{rules}
+use mathlib.Core.Path.{refl}
 use Rattle.events.proofs.follow.Goals as goal
 
 pub returns-then-complete : goal.returns-then-complete

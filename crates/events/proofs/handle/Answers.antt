@@ -1,7 +1,6 @@
 use Rattle.events.specs.Events.{handled}
 use Rattle.common.proofs.Laws.{front-nil}
 use mathlib.Core.Path.{refl, sym, ◌∙◌}
-use borrow.Author.Rules.{rules}
 use Rattle.events.proofs.handle.Goals as goal
 
 pub returns-then-ignored : goal.returns-then-ignored

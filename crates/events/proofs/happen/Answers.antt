@@ -1,7 +1,7 @@
 use Rattle.control_pipe.proofs.Laws.{cleared}
 use Rattle.events.specs.Events.{happens}
 use Rattle.common.proofs.Laws.{front-nil}
-use mathlib.Core.Path.{refl, sym, ◌∙◌}
+use mathlib.Core.Path.{refl, ◌∙◌}
 use borrow.Author.Rules.{rules}
 use Rattle.events.proofs.happen.Goals as goal
 

@@ -1,5 +1,4 @@
 use Rattle.answers.specs.Answers.{answer}
-use borrow.Author.Rules.{rules}
 use Rattle.events.proofs.judge.Goals as goal
 
 pub returns : goal.returns

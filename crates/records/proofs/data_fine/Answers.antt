@@ -1,8 +1,6 @@
-use native.Mathlib.Omega.{arith}
 use Rattle.records.specs.Records.{data_fine}
 use mathlib.Core.Path.{refl, sym, ◌∙◌}
-use borrow.Author.Tests.{eq-eqb, ne_eqb, le-leb, lt-leb, not-true, not-false}
-use borrow.Author.Rules.{rules}
+use borrow.Author.Tests.{le-leb, lt-leb}
 use Rattle.records.proofs.data_fine.Goals as goal
 
 pub returns-then-s-gt2 : goal.returns-then-s-gt2

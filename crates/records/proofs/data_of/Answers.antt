@@ -1,7 +1,5 @@
 use Rattle.records.specs.Records.{data_of}
 use mathlib.Core.Path.{refl, sym, ◌∙◌}
-use borrow.Author.Tests.{eq-eqb, ne_eqb, le-leb, lt-leb, not-true, not-false}
-use borrow.Author.Rules.{rules}
 use Rattle.records.proofs.data_of.Goals as goal
 
 pub returns-then-not-data_fine : goal.returns-then-not-data_fine

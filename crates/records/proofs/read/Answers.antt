@@ -1,7 +1,7 @@
 use Rattle.records.specs.Records.{known_of, kind_of}
 use Rattle.common.proofs.Laws.{tests}
-use mathlib.Core.Path.{refl, sym, ◌∙◌}
-use borrow.Author.Tests.{eq-eqb, ne_eqb, le-leb, lt-leb, not-true, not-false}
+use mathlib.Core.Path.{refl}
+use borrow.Author.Tests.{eq-eqb, ne_eqb}
 use borrow.Author.Rules.{rules}
 use Rattle.records.proofs.read.Goals as goal
 

@@ -1,9 +1,7 @@
-use Prim.Native.Nat.{◌-◌}
 use mathlib.Core.Bool.{◌&&◌}
-use mathlib.Core.Path.{◌≡◌, refl, sym, ap, ◌∙◌}
-use borrow.Author.Rules.{rules}
+use mathlib.Core.Path.{sym, ap, ◌∙◌}
 use lib.Dec.{eqb}
-use lib.ListN.{get_or, take, drop}
+use lib.ListN.{get_or}
 use Rattle.common.specs.Lists.{every}
 use Rattle.common.proofs.Lists.{turn, ended, every-nil}
 use Rattle.records.specs.Records.{is_zero}

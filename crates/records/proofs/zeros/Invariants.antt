@@ -1,13 +1,10 @@
 use Prim.Native.Nat.{◌-◌}
 use mathlib.Core.Bool.{◌&&◌}
-use mathlib.Core.Path.{◌≡◌, refl, sym, ap, ◌∙◌}
-use borrow.Author.Rules.{rules}
+use mathlib.Core.Path.{◌≡◌}
 use lib.Dec.{eqb}
-use lib.ListN.{get_or, take, drop}
+use lib.ListN.{take, drop}
 use Rattle.common.specs.Lists.{every}
-use Rattle.common.proofs.Lists.{turn, ended, every-nil}
 use Rattle.records.specs.Records.{is_zero}
-use Rattle.records.proofs.Laws.{and-true, seen_next}
 use Rattle.records.proofs.zeros.Given as goal
 
 -- what is asked of the part is asked of what was seen, and of what is left of it

@@ -1,8 +1,7 @@
 use Rattle.effects.specs.declared.Action.TheVariants.{Resume}
 use Rattle.actions.specs.Actions.{consed}
 use Rattle.actions.proofs.Laws.{told-parts}
-use mathlib.Core.Path.{refl, sym, ap, ◌∙◌}
-use borrow.Author.Rules.{rules}
+use mathlib.Core.Path.{ap, ◌∙◌}
 use Rattle.actions.proofs.Actions.tell.Goals as goal
 
 pub returns-then-resumed : goal.returns-then-resumed
