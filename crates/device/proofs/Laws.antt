@@ -1,20 +1,19 @@
 -- Laws of the device's calls that the proofs cite. Assumes nothing.
 use Prim.Native.Nat.{ℕ, ◌+◌, ◌%◌, ◌≤◌}
-use mathlib.Core.Bool.{Bool, true, false, cond, not, ◌&&◌}
-use mathlib.Core.Path.{◌≡◌, refl, sym, ap, ap₂, ◌∙◌}
+use mathlib.Core.Bool.{Bool, true, false, cond, ◌&&◌}
+use mathlib.Core.Path.{◌≡◌, refl, ap, ap₂, ◌∙◌}
 use mathlib.Core.List.{List}
 use native.Mathlib.Omega.{arith}
 use borrow.Author.Tests.{le-leb, leb-true, eqb-true, eqb-false}
 use lib.Dec.{eqb, leb}
-use lib.ListN.{length, take, drop}
-use Rattle.common.specs.Bytes.{inside, piece, stored, front}
+use lib.ListN.{length, take}
+use Rattle.common.specs.Bytes.{piece, stored, front}
 use Rattle.common.proofs.Refusals.{Named}
 use Rattle.common.proofs.Laws.{cond-elim, and_left, and_right, stored-front}
 use Rattle.record.specs.declared.Record.{Record}
 use Rattle.limits.specs.Limits.{lowest}
 use Rattle.limits.proofs.Good.{lowest-number}
 use Rattle.control_pipe.specs.Sizes.{buffer_room}
-use Rattle.control_pipe.specs.declared.Coming.{Coming}
 use Rattle.requests.specs.Sizes.{tile_size}
 use Rattle.live.proofs.Laws.{unfit-named}
 use Rattle.live.specs.Live.{book_fine, coming_fine, reply_fine, pipe_fine, state_fine, live_fine, unfit, step_refusal}
@@ -24,7 +23,7 @@ use Rattle.events.specs.Events.{Done, handled_of}
 use Rattle.device.specs.declared.Device.{Device}
 use Rattle.device.specs.declared.Polled.{Polled}
 use Rattle.device.specs.declared.Stepped.{Stepped}
-use Rattle.device.specs.Device.{build_refusal, refused_by, polled_of, stepped_to, unfit_device, data_ready, data_of, data_refusal, data_refused}
+use Rattle.device.specs.Device.{build_refusal, refused_by, polled_of, stepped_to, unfit_device, data_ready, data_refusal, data_refused}
 
 pub build-named : (r : Record) (book : ℕ) → Named (build_refusal r book)
 unfolding build_refusal

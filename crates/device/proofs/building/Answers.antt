@@ -1,8 +1,7 @@
 use Rattle.limits.proofs.Good.{told_none, told-some}
 use Rattle.device.specs.Device.{build_refusal}
-use mathlib.Core.Path.{◌≡◌, refl, sym, ap, ◌∙◌}
-use borrow.Author.Tests.{eq-eqb, ne_eqb, le-leb, lt-leb, not-true, not-false}
-use borrow.Author.Rules.{rules}
+use mathlib.Core.Path.{refl, sym, ◌∙◌}
+use borrow.Author.Tests.{ne_eqb}
 use Rattle.device.proofs.building.Goals as goal
 
 pub returns-then-number-ne0 : goal.returns-then-number-ne0

@@ -1,8 +1,7 @@
 use Rattle.common.proofs.Refusals.{named}
 use Rattle.device.specs.Device.{data_refusal}
-use mathlib.Core.Path.{◌≡◌, refl, sym, ap, ◌∙◌}
-use borrow.Author.Tests.{eq-eqb, ne_eqb, le-leb, lt-leb, not-true, not-false}
-use borrow.Author.Rules.{rules}
+use mathlib.Core.Path.{refl, sym, ◌∙◌}
+use borrow.Author.Tests.{ne_eqb, le-leb, lt-leb}
 use Rattle.device.proofs.data_refusal.Goals as goal
 
 pub returns-then-number-ne0 : goal.returns-then-number-ne0

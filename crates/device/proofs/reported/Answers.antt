@@ -1,6 +1,5 @@
 use Rattle.device.specs.Device.{masks_of}
-use mathlib.Core.Path.{◌≡◌, refl, sym, ap, ◌∙◌}
-use borrow.Author.Rules.{rules}
+use mathlib.Core.Path.{refl}
 use Rattle.device.proofs.reported.Goals as goal
 
 pub returns-in-Data : goal.returns-in-Data

@@ -3,9 +3,8 @@ use native.Mathlib.Omega.{arith}
 use Rattle.device.proofs.Laws.{build-named, built-small}
 use Rattle.common.proofs.Refusals.{told}
 use Rattle.device.specs.Device.{build_of}
-use mathlib.Core.Path.{◌≡◌, refl, sym, ap, ◌∙◌}
-use borrow.Author.Tests.{eq-eqb, ne_eqb, le-leb, lt-leb, not-true, not-false}
-use borrow.Author.Rules.{rules}
+use mathlib.Core.Path.{sym, ◌∙◌}
+use borrow.Author.Tests.{ne_eqb}
 use Rattle.device.proofs.Device.build.Goals as goal
 
 pub returns-then-number-ne0 : goal.returns-then-number-ne0

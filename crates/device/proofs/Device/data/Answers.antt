@@ -4,8 +4,8 @@ use Rattle.common.specs.Refusals.{refusal}
 use lib.ListN.{length}
 use Prim.Native.Nat.{ℕ}
 use Rattle.device.specs.Device.{data_refusal, handed_of, handed_room}
-use mathlib.Core.Path.{◌≡◌, refl, sym, ap, ◌∙◌}
-use borrow.Author.Tests.{eq-eqb, ne_eqb, le-leb, lt-leb, not-true, not-false}
+use mathlib.Core.Path.{refl, sym, ap, ◌∙◌}
+use borrow.Author.Tests.{ne_eqb}
 use borrow.Author.Rules.{rules}
 use Rattle.device.proofs.Device.data.Goals as goal
 

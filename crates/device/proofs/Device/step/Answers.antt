@@ -2,9 +2,8 @@ use Rattle.device.specs.Device.{step_of, room_of, done}
 use Rattle.device.proofs.Laws.{step-named, step-done}
 use Rattle.common.proofs.Refusals.{told}
 use Rattle.device.specs.Device.{step_of, room_of}
-use mathlib.Core.Path.{◌≡◌, refl, sym, ap, ◌∙◌}
-use borrow.Author.Tests.{eq-eqb, ne_eqb, le-leb, lt-leb, not-true, not-false}
-use borrow.Author.Rules.{rules}
+use mathlib.Core.Path.{refl, sym, ◌∙◌}
+use borrow.Author.Tests.{ne_eqb}
 use Rattle.device.proofs.Device.step.Goals as goal
 
 pub returns-then-number-ne0 : goal.returns-then-number-ne0
