@@ -20,7 +20,7 @@ use Rattle.lines.specs.Lines.{line_of, bad_line}
 
 -- ---- a line from a trace entry
 
--- what the codes of Trace.antt stand for; by `Told.line_reads_lem` the line of an entry is `line_of` of its state, actions and packet
+-- what the codes of Trace.antt stand for; by `Told.line_reads` the line of an entry is `line_of` of its state, actions and packet
 abbrev pub state_at : ℕ → State
 state_at code = slice_index_or (Default ∷ Addressed ∷ Configured ∷ []) code Suspended
 

@@ -6,7 +6,7 @@ use Rattle.device.specs.declared.Stepped.{Stepped}
 use Rattle.device.specs.Device.{step_of, Handing as Handled, fresh, build_refusal, build_of, refused_by, unfit_device, data_refused, handed_of, handed_room, with_powered, powered_of}
 use Rattle.control_pipe.specs.Sizes.{buffer_room}
 use Prim.Native.Nat.{ℕ, zero, suc, ◌+◌, ◌*◌, ◌/◌, ◌^◌, ◌≤◌, ◌<◌, min}
-use mathlib.Core.Bool.{Bool, true, false, not}
+use mathlib.Core.Bool.{Bool, true, false}
 use mathlib.Core.Path.{◌≡◌, refl, sym, ap, ap₂, ◌∙◌}
 use mathlib.Core.List.{List}
 use native.Mathlib.Omega.{arith}

@@ -2,7 +2,6 @@
 use Rattle.std.specs.Prelude.{ℕ, ◌+◌, ◌*◌, Bool, true, cond, List, ◌≡◌, eqb, length}
 use Rattle.common.specs.Bytes.{placed}
 use Rattle.common.specs.Refusals.{number_of}
-use Rattle.device.specs.declared.Device.{Device}
 use Rattle.device.specs.Device.{fresh, build_refusal, handed_of, handed_room, unfit_device, with_powered}
 use Rattle.record_bytes.specs.Layout.{record_size, record_of, record_coded}
 use Rattle.state.specs.State.{state_size, bytes_of, device_of, state_coded}
