@@ -1,12 +1,10 @@
 -- Document 01, module 5 (event records): one device stepped through a stream of them, a trace entry for each.
-use Rattle.std.specs.Prelude.{ℕ, zero, suc, ◌+◌, ◌/◌, ◌%◌, min, Bool, cond, List, [], ◌++◌, ◌≡◌, eqb, length, take, drop, replicate}
+use Rattle.std.specs.Prelude.{ℕ, zero, suc, ◌+◌, ◌/◌, ◌%◌, min, cond, List, [], ◌++◌, ◌≡◌, eqb, length, take, drop, replicate}
 use Rattle.common.specs.Bytes.{part, placed}
 use Rattle.common.specs.Refusals.{number_of, refusal}
-use Rattle.common.specs.declared.Refusal.{Refusal}
 use Rattle.record.specs.declared.Record.{Record}
 use Rattle.live.specs.declared.Live.{Live}
 use Rattle.device.specs.declared.Device.{Device}
-use Rattle.device.specs.declared.Stepped.{Stepped}
 use Rattle.device.specs.Device.{refused_by, step_of, room_of}
 use Rattle.records.specs.declared.Happening.{Happening}
 use Rattle.records.specs.declared.Known.{Known}

@@ -1,6 +1,6 @@
 -- The trace of a run: an entry of 82 bytes for each event. State, answer, the masks setup, out and in (little-endian), five
 -- actions as a code and an argument, then the packet that was written, zero-filled to 64.
-use Rattle.std.specs.Prelude.{ℕ, ◌/◌, ◌%◌, Bool, cond, List, [], ◌∷◌, ◌++◌}
+use Rattle.std.specs.Prelude.{ℕ, ◌/◌, ◌%◌, cond, List, [], ◌∷◌, ◌++◌}
 use Rattle.requests.specs.declared.State.{State}
 use Rattle.requests.specs.declared.State.TheVariants.{Default, Addressed, Configured, Suspend as Suspended}
 use Rattle.effects.specs.declared.Action.{Action}

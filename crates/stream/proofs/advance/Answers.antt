@@ -8,7 +8,6 @@ use Rattle.device.proofs.Laws.{step-named}
 use Rattle.common.proofs.Refusals.{told}
 use native.Mathlib.Omega.{arith}
 use mathlib.Core.Path.{◌≡◌, refl, sym, ◌∙◌}
-use borrow.Author.Rules.{rules}
 use Rattle.stream.proofs.advance.Goals as goal
 
 pub returns-then-number-ne0 : goal.returns-then-number-ne0

@@ -1,7 +1,6 @@
 use Rattle.stream.specs.Trace.{top_bytes}
 use Rattle.common.proofs.Laws.{stored-whole}
 use mathlib.Core.Path.{refl, ◌∙◌}
-use borrow.Author.Rules.{rules}
 use Rattle.stream.proofs.put_top.Goals as goal
 
 pub returns : goal.returns

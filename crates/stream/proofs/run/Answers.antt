@@ -1,15 +1,10 @@
-use Prim.Native.Nat.{ℕ, ◌+◌, ◌-◌, ◌*◌, ◌/◌, ◌≤◌, ◌<◌, min, zero-le}
-use mathlib.Core.Path.{◌≡◌, refl, sym, ◌∙◌, subst}
+use Prim.Native.Nat.{ℕ, ◌*◌, ◌<◌, zero-le}
+use mathlib.Core.Path.{refl, sym, subst}
 use native.Mathlib.Omega.{arith}
-use borrow.Author.Rules.{rules}
-use lib.ListN.{length, take, drop}
-use Rattle.common.specs.Bytes.{placed}
+use lib.ListN.{length}
 use Rattle.common.proofs.Laws.{placed-nil}
 use Rattle.records.specs.Sizes.{event_room}
-use Rattle.stream.specs.Trace.{entry_room}
-use Rattle.common.specs.Refusals.{refusal}
-use Rattle.device.specs.Device.{refused_by}
-use Rattle.stream.specs.Stream.{clean, device_of, longer, runs, run_of, turns_by}
+use Rattle.stream.specs.Stream.{run_of}
 use Rattle.stream.proofs.Laws.{whole-turns, whole-bounds, slice-event, run-start, run-refused, run-again, run-fit, run-ended}
 use Rattle.stream.proofs.run.Goals as goal
 

@@ -3,7 +3,6 @@ use Rattle.stream.specs.Stream.{turn_by}
 use Rattle.common.proofs.Refusals.{named}
 use Rattle.common.proofs.Laws.{placed-nil}
 use mathlib.Core.Path.{refl, sym, ◌∙◌}
-use borrow.Author.Rules.{rules}
 use Rattle.stream.proofs.single.Goals as goal
 
 pub advance-requires : goal.advance-requires

@@ -1,5 +1,4 @@
 use Rattle.stream.proofs.Laws.{turns-room, turns-whole, turns-part}
-use borrow.Author.Rules.{rules}
 use Rattle.stream.proofs.turns.Goals as goal
 
 pub returns-then-room-whole : goal.returns-then-room-whole
