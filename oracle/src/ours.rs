@@ -1,4 +1,4 @@
-//! Ours, through the wrapper of `bind/rust` and the archive that `rt staticlib link` writes.
+//! Ours, through the wrapper of `bind/rust` and the archive that `bind/archive` builds.
 
 use crate::event::{Entry, Event};
 use mast::Refusal;

@@ -1,5 +1,5 @@
 -- Laws of lines that the proofs cite. Assumes nothing.
-use Rattle.std.proofs.Common.{◌≡◌, ℕ, zero, suc, ◌+◌, ◌-◌, ◌*◌, ◌/◌, ◌%◌, ◌^◌, ◌<◌, ◌≤◌, min, Bool, true, false, cond, ◌&&◌, eqb, ltb, leb, List, [], ◌∷◌, ◌++◌, length, get_or, take, drop, set, sym, refl, ap, ◌∙◌, ap₂, append_assoc, append-nil, zero-le, add-zero, add-one, arith, length-append, length-drop, length-take, length-take-le, take_all, drop-drop, le-ltb, lt-ltb, eq-eqb, ne_eqb, leb-false, leb-true}
+use Rattle.std.proofs.Common.{◌≡◌, ℕ, zero, suc, ◌+◌, ◌-◌, ◌*◌, ◌/◌, ◌%◌, ◌^◌, ◌<◌, ◌≤◌, min, Bool, true, false, cond, eqb, ltb, leb, List, [], ◌∷◌, ◌++◌, length, get_or, take, drop, set, sym, refl, ap, ◌∙◌, ap₂, append_assoc, append-nil, zero-le, add-zero, add-one, arith, length-append, length-drop, length-take, length-take-le, take_all, drop-drop, le-ltb, lt-ltb, leb-false, leb-true}
 use native.Mathlib.Nat.{sub-zero}
 use types.Run.{OneOf}
 use lib.ListN.{get_or-eq_default}

@@ -1,6 +1,6 @@
 -- A stream that is handed over in pieces is told in the same lines as in one: behind k event records that were taken, the
 -- device then and the number then go on with what is left. Assumes nothing.
-use Rattle.std.proofs.Common.{◌≡◌, ℕ, zero, suc, ◌+◌, ◌*◌, ◌%◌, ◌^◌, ◌<◌, Bool, true, false, eqb, List, [], ◌++◌, take, drop, sym, refl, ap, ◌∙◌, ap₂, append_assoc, mod-lt, suc-add, zero-add, arith, drop-drop, eqb-true}
+use Rattle.std.proofs.Common.{◌≡◌, ℕ, zero, suc, ◌+◌, ◌*◌, ◌%◌, ◌^◌, ◌<◌, Bool, true, false, eqb, List, ◌++◌, take, drop, sym, refl, ap, ◌∙◌, ap₂, append_assoc, suc-add, zero-add, arith, drop-drop}
 use borrow.Author.Tests.{eqb-false}
 use Rattle.device.specs.declared.Device.{Device}
 use Rattle.records.specs.Records.{known_of}

@@ -1,6 +1,6 @@
 -- The line of a trace entry is the line of its step (`line_reads`), and the lines of a run's trace are those of its steps
 -- (`run-lines`). Assumes nothing.
-use Rattle.std.proofs.Common.{◌≡◌, ℕ, zero, suc, ◌+◌, ◌*◌, ◌/◌, ◌%◌, ◌<◌, ◌≤◌, min, Bool, true, false, cond, eqb, List, [], ◌∷◌, ◌++◌, length, take, drop, sym, refl, ap, ◌∙◌, ap₂, append_assoc, zero-add, add-one, arith, length-take, take_at, drop_at, eqb-true}
+use Rattle.std.proofs.Common.{◌≡◌, ℕ, zero, suc, ◌+◌, ◌*◌, ◌/◌, ◌%◌, ◌<◌, ◌≤◌, min, Bool, true, false, cond, eqb, List, ◌++◌, length, take, drop, sym, refl, ap, ◌∙◌, ap₂, append_assoc, zero-add, add-one, arith, length-take, take_at, drop_at, eqb-true}
 use borrow.Author.Tests.{eqb-false}
 use Rattle.common.specs.Bytes.{part, placed}
 use Rattle.common.specs.Refusals.{number_of, refusal}
@@ -10,11 +10,9 @@ use Rattle.requests.specs.declared.State.{State}
 use Rattle.requests.specs.declared.State.TheVariants.{Default, Addressed, Configured, Suspend as Suspended}
 use Rattle.effects.specs.declared.Action.{Action}
 use Rattle.effects.specs.declared.Action.TheVariants.{Nothing, Resume, Suspend, Reset, UnstallOut, UnstallIn, StallOut, StallIn, Halt, Unhalt, Address, Write, Refused}
-use Rattle.actions.specs.declared.Actions.{Actions}
 use Rattle.device.specs.declared.Device.{Device}
 use Rattle.device.specs.declared.Polled.{Polled}
 use Rattle.device.specs.Device.{refused_by, step_of, room_of}
-use Rattle.records.specs.declared.Happening.{Happening}
 use Rattle.records.specs.declared.Known.{Known}
 use Rattle.records.specs.declared.Known.TheVariants.{Good, Refused as Bad}
 use Rattle.records.specs.Records.{known_of}

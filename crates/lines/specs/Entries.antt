@@ -8,7 +8,7 @@ use Rattle.effects.specs.declared.Action.{Action}
 use Rattle.effects.specs.declared.Action.TheVariants.{Nothing, Resume, Suspend, Reset, UnstallOut, UnstallIn, StallOut, StallIn, Halt, Unhalt, Address, Write, Refused}
 use Rattle.actions.specs.declared.Actions.{Actions}
 use Rattle.device.specs.declared.Device.{Device}
-use Rattle.device.specs.Device.{refused_by, step_of, room_of}
+use Rattle.device.specs.Device.{step_of, room_of}
 use Rattle.records.specs.declared.Known.{Known}
 use Rattle.records.specs.declared.Known.TheVariants.{Good, Refused as Bad}
 use Rattle.records.specs.Records.{known_of}

@@ -1,7 +1,7 @@
 use Rattle.lines.specs.Lines.{word_of}
 use Rattle.lines.specs.Entries.{action_at}
-use Rattle.lines.proofs.Laws.{wrote_none, action-rest, Past, past}
-use Rattle.std.proofs.Common.{rules}
+use Rattle.lines.proofs.Laws.{wrote_none, action-rest}
+use Rattle.std.proofs.Common.{◌≤◌, arith}
 use Rattle.lines.proofs.action.Goals as goal
 
 pub returns-in-0 : goal.returns-in-0
@@ -57,5 +57,4 @@ unfolding action_at word_of
 returns-in-12 c = rw c.in-12.is c.packed-in-12.ensures
 
 pub returns-in_default : goal.returns-in_default
-unfolding Past
-returns-in_default c = rw (← (action-rest c.args.code c.args.x c.args.packet.now (past 13 _ c.in_default.in_default-own.rest))) (wrote_none _ _)
+returns-in_default c = let l : 13 ≤ c.args.code = omega arith in rw (← (action-rest c.args.code c.args.x c.args.packet.now l)) (wrote_none _ _)

@@ -1,8 +1,7 @@
-use Rattle.lines.proofs.Laws.{lines_start, lines-turn, lines_end, slice-entry, room-line, room-stop}
 use Rattle.lines.specs.Entries.{lines_of, line_room}
 use Rattle.stream.specs.Trace.{entry_room}
 use Rattle.common.proofs.Pending.{Pending}
-use Rattle.std.proofs.Common.{◌-◌, ◌*◌, ◌≤◌, drop, zero-le, arith, rules}
+use Rattle.std.proofs.Common.{◌-◌, ◌*◌, ◌≤◌, drop}
 use Rattle.lines.proofs.all.Given as goal
 
 abbrev pub invariant-loop-i : goal.invariant-loop-i

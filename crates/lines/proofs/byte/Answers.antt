@@ -1,5 +1,5 @@
 use Rattle.lines.proofs.Laws.{set-placed}
-use Rattle.std.proofs.Common.{refl, rules}
+use Rattle.std.proofs.Common.{refl}
 use Rattle.lines.proofs.byte.Goals as goal
 
 pub returns : goal.returns

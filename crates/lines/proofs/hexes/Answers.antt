@@ -1,7 +1,7 @@
 use Rattle.lines.proofs.Laws.{hexes-length, hexes-turn, hexes-end}
-use Rattle.lines.specs.Lines.{hex_of, hexes}
-use Rattle.common.proofs.Pending.{Pending, pending-start, pending-room, pending-turn}
-use Rattle.std.proofs.Common.{◌-◌, get_or, take, drop, refl, arith, length-take}
+use Rattle.lines.specs.Lines.{hex_of}
+use Rattle.common.proofs.Pending.{pending-start, pending-room, pending-turn}
+use Rattle.std.proofs.Common.{get_or, take, refl, arith, length-take}
 use Rattle.lines.proofs.hexes.Goals as goal
 
 pub loop-i-init : goal.loop-i-init

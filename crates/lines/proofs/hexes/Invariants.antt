@@ -1,7 +1,6 @@
-use Rattle.lines.proofs.Laws.{hexes-length, hexes-turn, hexes-end}
-use Rattle.lines.specs.Lines.{hex_of, hexes}
-use Rattle.common.proofs.Pending.{Pending, pending-start, pending-room, pending-turn}
-use Rattle.std.proofs.Common.{◌-◌, get_or, take, drop, refl, arith, length-take}
+use Rattle.lines.specs.Lines.{hexes}
+use Rattle.common.proofs.Pending.{Pending}
+use Rattle.std.proofs.Common.{◌-◌, take, drop}
 use Rattle.lines.proofs.hexes.Given as goal
 
 abbrev pub invariant-loop-i : goal.invariant-loop-i

@@ -1,5 +1,5 @@
 use Rattle.lines.specs.Lines.{hexes}
-use Rattle.std.proofs.Common.{arith, rules}
+use Rattle.std.proofs.Common.{arith}
 use Rattle.lines.proofs.Laws.{wrote-more}
 use Rattle.lines.proofs.marked.Goals as goal
 

@@ -1,4 +1,4 @@
-use Rattle.std.proofs.Common.{arith, rules}
+use Rattle.std.proofs.Common.{arith}
 use Rattle.lines.proofs.Laws.{wrote-more}
 use Rattle.lines.proofs.word.Goals as goal
 

@@ -3,7 +3,7 @@ use Rattle.lines.proofs.Laws.{wrote-room, slot-most}
 use Rattle.lines.specs.Entries.{action_in}
 use Rattle.lines.specs.Lines.{word_of}
 use Rattle.stream.specs.Trace.{top_room}
-use Rattle.std.proofs.Common.{ℕ, ◌≤◌, length, drop, arith, rules}
+use Rattle.std.proofs.Common.{ℕ, ◌≤◌, length, drop, arith}
 use Rattle.lines.proofs.words.Goals as goal
 
 pub slot-b-requires : goal.slot-b-requires
