@@ -1,5 +1,5 @@
 -- Laws of a move inside a buffer. Assumes nothing.
-use Rattle.std.proofs.Common.{◌≡◌, ℕ, ◌+◌, ◌-◌, ◌≤◌, List, [], ◌∷◌, ◌++◌, length, get_or, take, drop, set, sym, ap, ◌∙◌, ap₂, add-one, arith, length-drop, length-take-le, get_or-drop, take-suc, get_or-append-add, le-leb}
+use Rattle.std.proofs.Common.{◌≡◌, ℕ, ◌+◌, ◌-◌, ◌≤◌, List, [], ◌∷◌, ◌++◌, length, get_or, drop, set, sym, ap, ◌∙◌, ap₂, add-one, arith, length-drop, length-take-le, get_or-drop, take-suc, get_or-append-add, le-leb}
 use Rattle.common.specs.Bytes.{part, placed, stored}
 use Rattle.common.proofs.Laws.{placed-more, length-placed, stored-part}
 use Rattle.lines.proofs.Laws.{set-placed}
