@@ -1,8 +1,7 @@
 // Replays a stream of event records from standard input (document 01, module 5): a line for each event, on standard output.
 // A bad record, a partial last one too, prints its number and `! 10`, and ends it; an empty input prints nothing.
-// Where standard input cannot be read (a directory) or standard output not be written (a full disk), it stops and says so on
-// standard error. The exit status is 0; the system itself ends one that writes to a pipe that nobody reads (SIGPIPE, which a shell
-// shows as 141).
+// Where standard input cannot be read (a directory) or standard output not be written (a full disk, a pipe that nobody reads), it
+// stops and says so on standard error. The exit status is 0.
 #![tactic(auto)]
 
 ghost use Rattle.std.specs.Prelude.{◌≡◌};
