@@ -1,11 +1,9 @@
--- Document 01, "When the mast says no": the number of each refusal.
-use Rattle.std.specs.Prelude.{ℕ, [], ◌∷◌, get_or}
+-- Document 01, "When the mast says no": the number of each refusal, and what a call answers that a number refuses.
+use Rattle.std.specs.Prelude.{ℕ, ◌-◌, cond, eqb, [], ◌∷◌, get_or, Option, Some, None, Result, Ok, Err}
 use Rattle.common.specs.declared.Refusal.{Refusal}
-use Rattle.common.specs.declared.Refusal.TheVariants.{None, PacketSize, Layout, Languages, BookLength, OtherBook, PacketRoom, NoData, DataRoom, BadState, BadEvent, BadSetup, AnswerRoom}
+use Rattle.common.specs.declared.Refusal.TheVariants.{PacketSize, Layout, Languages, BookLength, OtherBook, PacketRoom, NoData, DataRoom, BadState, BadEvent, BadSetup, AnswerRoom}
 
--- 0 is no refusal
 abbrev pub number_of : Refusal → ℕ
-number_of None = 0
 number_of PacketSize = 1
 number_of Layout = 2
 number_of Languages = 3
@@ -19,12 +17,11 @@ number_of BadEvent = 10
 number_of BadSetup = 11
 number_of AnswerRoom = 12
 
--- the same table the other way: the refusal of a number, at its place (`Refusals.named` shows that the two agree)
+-- the same table the other way: the refusal of a number 1 to 12 (`Refusals.named` shows that the two agree)
 abbrev pub refusal : ℕ → Refusal
 refusal n =
     get_or
-    (None
-    ∷ PacketSize
+    (PacketSize
     ∷ Layout
     ∷ Languages
     ∷ BookLength
@@ -35,7 +32,14 @@ refusal n =
     ∷ BadState
     ∷ BadEvent
     ∷ BadSetup
-    ∷ AnswerRoom
     ∷ [])
-    n
-    None
+    (n - 1)
+    AnswerRoom
+
+-- x unless a number refuses; 0 is no refusal
+abbrev pub unless : {A : Type 0} → ℕ → A → Result A Refusal
+unless n x = cond (eqb n 0) (Ok x) (Err (refusal n))
+
+-- what stops a run, if a number does
+abbrev pub stop : ℕ → Option Refusal
+stop n = cond (eqb n 0) None (Some (refusal n))
