@@ -1,5 +1,6 @@
 -- USB 2.0 section 9.3, table 9-2: what the eight bytes of a SETUP packet say. Document 01, module 1.
-use Rattle.std.specs.Prelude.{ℕ, ◌+◌, ◌*◌, ◌/◌, ◌%◌, cond, List, [], ◌∷◌, length, get_or, eqb}
+use Rattle.std.specs.Prelude.{ℕ, ◌+◌, ◌*◌, ◌/◌, ◌%◌, cond, List, [], ◌∷◌, length, get_or, eqb, Result, Ok, Err}
+use Rattle.common.specs.declared.Refusal.{Refusal}
 use Rattle.common.specs.Refusals.{refusal}
 use Rattle.control.specs.declared.Direction.{Direction}
 use Rattle.control.specs.declared.Direction.TheVariants.{In, Out}
@@ -8,20 +9,18 @@ use Rattle.control.specs.declared.RequestType.TheVariants.{Standard, Class, Vend
 use Rattle.control.specs.declared.Recipient.{Recipient}
 use Rattle.control.specs.declared.Recipient.TheVariants.{Device, Interface, Endpoint, Other, Reserved}
 use Rattle.control.specs.declared.Request.{Request}
-use Rattle.control.specs.declared.Parsed.{Parsed}
-use Rattle.control.specs.declared.Parsed.TheVariants.{Good, Refused}
 use Rattle.control.specs.declared.TypeIndex.{TypeIndex}
 
 -- bmRequestType, bit 7: 0 host to device, 1 device to host
-unfoldable pub direction_of : ℕ → Direction
+abbrev pub direction_of : ℕ → Direction
 direction_of b = get_or (Out ∷ In ∷ []) (b / 128) In
 
 -- bmRequestType, bits 6 to 5: 0 standard, 1 class, 2 vendor, 3 reserved
-unfoldable pub type_of : ℕ → RequestType
+abbrev pub type_of : ℕ → RequestType
 type_of b = get_or (Standard ∷ Class ∷ Vendor ∷ ReservedType ∷ []) (b / 32 % 4) ReservedType
 
 -- bmRequestType, bits 4 to 0: 0 device, 1 interface, 2 endpoint, 3 other, 4 to 31 reserved
-unfoldable pub recipient_of : ℕ → Recipient
+abbrev pub recipient_of : ℕ → Recipient
 recipient_of b = get_or (Device ∷ Interface ∷ Endpoint ∷ Other ∷ []) (b % 32) Reserved
 
 -- the number of two bytes at a place, little-endian (section 8.1)
@@ -42,8 +41,8 @@ request_of s =
     }
 
 -- exactly eight bytes, else refusal 11
-unfoldable pub parsed : List ℕ → Parsed
-parsed s = cond (eqb (length s) 8) (Good (request_of s)) (Refused (refusal 11))
+abbrev pub parsed : List ℕ → Result Request Refusal
+parsed s = cond (eqb (length s) 8) (Ok (request_of s)) (Err (refusal 11))
 
 -- section 9.4.3: wValue has the descriptor's type in its high byte and its index in the low byte
 abbrev pub type_index_of : Request → TypeIndex

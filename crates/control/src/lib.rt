@@ -1,47 +1,51 @@
-// A control request read from a SETUP packet, and the three kinds of number that a request can name.
+//! A control request read from a SETUP packet, and the three kinds of number that a request can name.
 #![tactic(auto)]
 
-ghost use Rattle.std.specs.Prelude.{◌≡◌, ◌+◌, ◌*◌, ◌<◌, length};
-ghost use Rattle.control.specs.Setup.{direction_of, type_of, recipient_of, word_at, parsed, type_index_of};
+ghost use Rattle.std.specs.Prelude.{◌≡◌, ◌+◌, ◌*◌, length};
+ghost use Rattle.control.specs.Setup.{direction_of, type_of, recipient_of, parsed, type_index_of};
 
-use common::Refusal;
+use common::{Coded, Refusal};
 
-// The address of a device on the bus.
-#[derive(Clone, Copy)]
+/// The address of a device on the bus.
+#[derive(Clone, Copy, Debug, PartialEq, Eq)]
 pub struct BusAddress(pub u8);
 
-// An endpoint's number, with bit 7 set for IN.
-#[derive(Clone, Copy)]
+/// An endpoint's number, with bit 7 set for IN.
+#[derive(Clone, Copy, Debug, PartialEq, Eq)]
 pub struct EndpointAddress(pub u8);
 
-// The place of a record in the tile book.
-#[derive(Clone, Copy)]
+/// The place of a record in the tile book.
+#[derive(Clone, Copy, Debug, PartialEq, Eq)]
 pub struct TileNumber(pub u16);
 
-#[derive(Clone, Copy)]
+/// Which way a transfer's data goes, as the host sees it.
+#[derive(Clone, Copy, Debug, PartialEq, Eq)]
 pub enum Direction {
-    Out,
-    In,
+    Out = 0,
+    In = 1,
 }
 
-#[derive(Clone, Copy)]
+/// Who defines a request.
+#[derive(Clone, Copy, Debug, PartialEq, Eq)]
 pub enum RequestType {
-    Standard,
-    Class,
-    Vendor,
-    Reserved,
+    Standard = 0,
+    Class = 1,
+    Vendor = 2,
+    Reserved = 3,
 }
 
-#[derive(Clone, Copy)]
+/// What a request is for.
+#[derive(Clone, Copy, Debug, PartialEq, Eq)]
 pub enum Recipient {
-    Device,
-    Interface,
-    Endpoint,
-    Other,
-    Reserved,
+    Device = 0,
+    Interface = 1,
+    Endpoint = 2,
+    Other = 3,
+    Reserved = 4,
 }
 
-#[derive(Clone, Copy)]
+/// A control request: the fields of a SETUP packet (USB 2.0, table 9-2).
+#[derive(Clone, Copy, Debug, PartialEq, Eq)]
 pub struct Request {
     pub direction: Direction,
     pub kind: RequestType,
@@ -52,67 +56,107 @@ pub struct Request {
     pub length: u16,
 }
 
-#[derive(Clone, Copy)]
-pub enum Parsed {
-    Good(Request),
-    Refused(Refusal),
-}
-
-// What the value of a GET_DESCRIPTOR request names.
-#[derive(Clone, Copy)]
+/// What the value of a GET_DESCRIPTOR request names.
+#[derive(Clone, Copy, Debug, PartialEq, Eq)]
 pub struct TypeIndex {
     pub kind: u8,
     pub index: u8,
 }
 
-fn direction_of(b: u8) -> Direction
-    ensures { result ≡ direction_of b }
-{
-    let bit = b / 128;
-    match bit {
-        0 => Direction::Out,
-        _ => Direction::In,
+impl Coded for Direction {
+    ghost use Rattle.control.specs.Codes.{direction_code, direction_of_code, direction_back};
+
+    ghost code = { direction_code };
+
+    ghost named = { direction_of_code };
+
+    ghost back = { direction_back };
+
+    fn code(self) -> u8 {
+        self as u8
+    }
+
+    fn of_code(n: u8) -> Direction {
+        match n {
+            0 => Direction::Out,
+            _ => Direction::In,
+        }
     }
 }
 
-fn type_of(b: u8) -> RequestType
-    ensures { result ≡ type_of b }
-{
-    let bits = b / 32 % 4;
-    match bits {
-        0 => RequestType::Standard,
-        1 => RequestType::Class,
-        2 => RequestType::Vendor,
-        _ => RequestType::Reserved,
+impl Coded for RequestType {
+    ghost use Rattle.control.specs.Codes.{type_code, type_of_code, type_back};
+
+    ghost code = { type_code };
+
+    ghost named = { type_of_code };
+
+    ghost back = { type_back };
+
+    fn code(self) -> u8 {
+        self as u8
+    }
+
+    fn of_code(n: u8) -> RequestType {
+        match n {
+            0 => RequestType::Standard,
+            1 => RequestType::Class,
+            2 => RequestType::Vendor,
+            _ => RequestType::Reserved,
+        }
     }
 }
 
-fn recipient_of(b: u8) -> Recipient
-    ensures { result ≡ recipient_of b }
-{
-    let bits = b % 32;
-    match bits {
-        0 => Recipient::Device,
-        1 => Recipient::Interface,
-        2 => Recipient::Endpoint,
-        3 => Recipient::Other,
-        _ => Recipient::Reserved,
+impl Coded for Recipient {
+    ghost use Rattle.control.specs.Codes.{recipient_code, recipient_of_code, recipient_back};
+
+    ghost code = { recipient_code };
+
+    ghost named = { recipient_of_code };
+
+    ghost back = { recipient_back };
+
+    fn code(self) -> u8 {
+        self as u8
+    }
+
+    fn of_code(n: u8) -> Recipient {
+        match n {
+            0 => Recipient::Device,
+            1 => Recipient::Interface,
+            2 => Recipient::Endpoint,
+            3 => Recipient::Other,
+            _ => Recipient::Reserved,
+        }
     }
 }
 
-// The word of two bytes, the low one first.
+/// The word of two bytes, the low one first.
 pub fn word(first: u8, second: u8) -> u16
     ensures { result ≡ first + 256 * second }
 {
-    first as u16 + 256 * (second as u16)
+    u16::from_le_bytes([first, second])
 }
 
-// The word at a place of a packet.
-fn word_at(packet: &[u8], at: usize) -> u16
-    requires { at + 1 < length packet.now }
-    ensures { result ≡ word_at packet.now at }
+// bmRequestType, bit 7.
+fn direction_of(b: u8) -> Direction
+    ensures { result ≡ direction_of b }
 {
-    word(packet[at], packet[at + 1])
+    Direction::of_code(b >> 7)
+}
+
+// bmRequestType, bits 6 to 5.
+fn type_of(b: u8) -> RequestType
+    ensures { result ≡ type_of b }
+{
+    RequestType::of_code(b >> 5 & 3)
+}
+
+// bmRequestType, bits 4 to 0.
+fn recipient_of(b: u8) -> Recipient
+    ensures { result ≡ recipient_of b }
+{
+    Recipient::of_code(b & 0x1f)
 }
 
 impl Request {
@@ -142,32 +186,29 @@ impl Request {
 
     pub const FEATURE_DEVICE_REMOTE_WAKEUP: u16 = 1;
 
-    // The request that a SETUP packet carries.
-    pub fn parse(packet: &[u8]) -> Parsed
+    /// The request that a SETUP packet carries: exactly eight bytes, else refusal 11.
+    pub fn parse(packet: &[u8]) -> Result<Request, Refusal>
         ensures { result ≡ parsed packet.now }
     {
-        if packet.len() != 8 {
-            return Parsed::Refused(Refusal::BadSetup);
-        }
-        let b = packet[0];
-        Parsed::Good(Request {
-            direction: direction_of(b),
-            kind: type_of(b),
-            recipient: recipient_of(b),
-            request: packet[1],
-            value: word_at(packet, 2),
-            index: word_at(packet, 4),
-            length: word_at(packet, 6),
+        let &[kind, request, v0, v1, i0, i1, l0, l1] = packet else {
+            return Err(Refusal::BadSetup);
+        };
+        Ok(Request {
+            direction: direction_of(kind),
+            kind: type_of(kind),
+            recipient: recipient_of(kind),
+            request,
+            value: word(v0, v1),
+            index: word(i0, i1),
+            length: word(l0, l1),
         })
     }
 
-    // The descriptor's type and index that the value names.
+    /// The type and index of the descriptor that `value` names (USB 2.0, 9.4.3).
     pub fn descriptor_type_index(self) -> TypeIndex
         ensures { result ≡ type_index_of self }
     {
-        TypeIndex {
-            kind: (self.value / 256) as u8,
-            index: (self.value % 256) as u8,
-        }
+        let [kind, index] = self.value.to_be_bytes();
+        TypeIndex { kind, index }
     }
 }
