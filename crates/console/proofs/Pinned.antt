@@ -3,4 +3,4 @@ use Rattle.common.proofs.Once.{Once, equal}
 use Rattle.console.proofs.used.Reads as used
 
 pub used-once : Once used.Post (λ κs x s. x)
-used-once κs a x y s t = equal
+used-once κs a x y s t p q = equal p.0 q.0

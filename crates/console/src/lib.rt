@@ -25,7 +25,8 @@ pub fn read_full<R: Read>(input: &mut R, buf: &mut [u8]) -> io::Result<usize>
 
 /// How many bytes there are up to the last that is not 0.
 pub fn used(bytes: &[u8]) -> usize
-    ensures { result ≡ used bytes.now }
+    ensures value { result ≡ used bytes.now }
+    ensures bound { result ≤ length bytes.now }
 {
     match bytes.iter().rposition(|&b| b != 0) {
         Some(i) => i + 1,
