@@ -1,14 +1,13 @@
 -- USB 2.0 section 8.5.3 (control transfers) and document 01, module 3: what the pipe does at a SETUP, at an OUT packet and at an
 -- IN-complete, at each stage. Nothing here knows what a request means.
-use Rattle.std.specs.Prelude.{ℕ, ◌+◌, ◌-◌, min, Bool, true, false, cond, List, [], ◌≡◌, eqb, leb, length, replicate}
+use Rattle.std.specs.Prelude.{ℕ, ◌+◌, ◌-◌, min, Bool, true, false, cond, List, [], ◌≡◌, eqb, leb, length, replicate, Result, Ok, Err}
+use Rattle.common.specs.declared.Refusal.{Refusal}
 use Rattle.common.specs.Bytes.{placed, piece, front}
 use Rattle.control.specs.declared.Direction.{Direction}
 use Rattle.control.specs.declared.Direction.TheVariants.{In, Out}
 use Rattle.control.specs.declared.RequestType.TheVariants.{Standard}
 use Rattle.control.specs.declared.Recipient.TheVariants.{Device}
 use Rattle.control.specs.declared.Request.{Request}
-use Rattle.control.specs.declared.Parsed.{Parsed}
-use Rattle.control.specs.declared.Parsed.TheVariants.{Good, Refused}
 use Rattle.control.specs.Setup.{parsed}
 use Rattle.control_pipe.specs.declared.Stage.{Stage}
 use Rattle.control_pipe.specs.declared.Stage.TheVariants.{Idle, DataIn, DataInZlp, DataInLast, CompleteIn, StatusOut, CompleteOut, DataOut, StatusIn, Error}
@@ -20,6 +19,7 @@ use Rattle.control_pipe.specs.declared.Source.{Source}
 use Rattle.control_pipe.specs.declared.Source.TheVariants.{Buffer, Book}
 use Rattle.control_pipe.specs.declared.Reply.{Reply}
 use Rattle.control_pipe.specs.declared.Pipe.{Pipe}
+use Rattle.control_pipe.specs.declared.Heard.{Heard}
 use Rattle.control_pipe.specs.declared.Moved.{Moved}
 use Rattle.control_pipe.specs.Sizes.{buffer_room}
 
@@ -35,7 +35,7 @@ pub record Move : Type 0 where
 -- ---- what can happen at any stage
 
 abbrev pub at : Stage → Pipe → Pipe
-at s p = record { stage = s; stallout = p.stallout; stallin = p.stallin; pending = p.pending; request = p.request; coming = p.coming; reply = p.reply }
+at s p = record p { stage = s }
 
 -- nothing
 abbrev pub still : Pipe → List ℕ → Move
@@ -49,7 +49,7 @@ ready p b = record { pipe = p; buffer = b; told = Nothing; packet = []; done = t
 abbrev pub stalled : Pipe → List ℕ → Move
 stalled p b =
     record {
-      pipe = record { stage = Error; stallout = true; stallin = true; pending = p.pending; request = p.request; coming = p.coming; reply = p.reply };
+      pipe = record p { stage = Error; stallout = true; stallin = true };
       buffer = b;
       told = Stalls;
       packet = [];
@@ -104,9 +104,9 @@ unfoldable pub begin_by : Direction → Request → Move
 begin_by Out q = begin_out q
 begin_by In q = opened (fresh CompleteIn q 0) true
 
-unfoldable pub begun : Parsed → Pipe → List ℕ → Move
-begun (Good q) p b = begin_by q.direction q
-begun (Refused why) p b = still p b
+unfoldable pub begun : Result Request Refusal → Pipe → List ℕ → Move
+begun (Ok q) p b = begin_by q.direction q
+begun (Err why) p b = still p b
 
 unfoldable pub setup_come : Read → List ℕ → Pipe → List ℕ → Move
 setup_come Packet s p b = begun (parsed s) p b
@@ -117,16 +117,7 @@ setup_come Fault s p b = still p b
 
 -- n more bytes are held
 abbrev pub grown : ℕ → Pipe → Pipe
-grown n p =
-    record {
-      stage = p.stage;
-      stallout = p.stallout;
-      stallin = p.stallin;
-      pending = p.pending;
-      request = p.request;
-      coming = record { awaited = p.coming.awaited; held = p.coming.held + n };
-      reply = p.reply;
-    }
+grown n p = record p { coming = record { awaited = p.coming.awaited; held = p.coming.held + n } }
 
 -- complete when the bytes so far reach wLength
 abbrev pub filled : Pipe → List ℕ → Move
@@ -197,16 +188,7 @@ unfoldable pub after_chunk : ℕ → ℕ → Pipe → Stage
 after_chunk size n p = cond (leb p.reply.len (p.reply.sent + n)) (cond (empty_follows size n p) DataInZlp DataInLast) DataIn
 
 unfoldable pub advanced : ℕ → ℕ → Pipe → Pipe
-advanced size n p =
-    record {
-      stage = after_chunk size n p;
-      stallout = p.stallout;
-      stallin = p.stallin;
-      pending = p.pending;
-      request = p.request;
-      coming = p.coming;
-      reply = record { source = p.reply.source; start = p.reply.start; len = p.reply.len; sent = p.reply.sent + n };
-    }
+advanced size n p = record p { stage = after_chunk size n p; reply = record p.reply { sent = p.reply.sent + n } }
 
 -- the next chunk; a refused write leaves the pipe as it is
 unfoldable pub send_chunk : ℕ → Bool → List ℕ → Pipe → List ℕ → Move
@@ -228,7 +210,7 @@ send_empty taken next p b = record { pipe = cond taken (at next p) p; buffer = b
 abbrev pub await_status : Pipe → List ℕ → Move
 await_status p b =
     record {
-      pipe = record { stage = StatusOut; stallout = false; stallin = p.stallin; pending = p.pending; request = p.request; coming = p.coming; reply = p.reply };
+      pipe = record p { stage = StatusOut; stallout = false };
       buffer = b;
       told = UnstallOut;
       packet = [];
@@ -254,16 +236,7 @@ in_complete size taken book p b = in_at p.stage size taken book p b
 
 -- IN: length min(length, wLength), first packet at once
 abbrev pub answering : Source → ℕ → ℕ → Pipe → Pipe
-answering source start n p =
-    record {
-      stage = DataIn;
-      stallout = p.stallout;
-      stallin = p.stallin;
-      pending = p.pending;
-      request = p.request;
-      coming = p.coming;
-      reply = record { source = source; start = start; len = min n p.request.length; sent = 0 };
-    }
+answering source start n p = record p { stage = DataIn; reply = record { source = source; start = start; len = min n p.request.length; sent = 0 } }
 
 abbrev pub accept_in : Source → ℕ → ℕ → ℕ → Bool → List ℕ → Pipe → List ℕ → Move
 accept_in source start n size taken book p b = send_chunk size taken book (answering source start n p) b
@@ -274,19 +247,25 @@ accept_out taken p b = send_empty taken StatusIn p b
 
 -- ---- what the code promises of a move
 
-abbrev pub moved : Move → Moved
-moved m = record { pipe = m.pipe; told = m.told; done = m.done }
-
--- of one that may change the buffer
-pub record Took (r : Moved) (exit : List ℕ) (m : Move) : Type 0 where
-  pub value : r ≡ moved m
+-- of one that may change the buffer: what is heard, and pipe and buffer then
+pub record Took (r : Heard) (after : Pipe) (exit : List ℕ) (m : Move) : Type 0 where
+  pub value : r ≡ record { told = m.told; complete = m.done }
+  pub pipe : after ≡ m.pipe
   pub buffer : exit ≡ m.buffer
 
--- of one that leaves whatever buffer there is
-abbrev pub Left : Moved → (List ℕ → Move) → Type 0
-Left r m = (b : List ℕ) → Took r b (m b)
-
 -- of one that may write the room
-pub record Sent (r : Moved) (exit : List ℕ) (m : Move) (entry : List ℕ) : Type 0 where
-  pub value : r ≡ moved m
+pub record Sent (r : Moved) (after : Pipe) (exit : List ℕ) (m : Move) (entry : List ℕ) : Type 0 where
+  pub value : r ≡ record { told = m.told; done = m.done }
+  pub pipe : after ≡ m.pipe
   pub room : exit ≡ front m.packet entry
+
+-- .. and that completes nothing
+pub record Said (r : Told) (after : Pipe) (exit : List ℕ) (m : Move) (entry : List ℕ) : Type 0 where
+  pub value : r ≡ m.told
+  pub pipe : after ≡ m.pipe
+  pub room : exit ≡ front m.packet entry
+
+-- of one that touches the pipe alone, whatever buffer there is
+pub record Turned (r : Told) (after : Pipe) (m : Move) : Type 0 where
+  pub value : r ≡ m.told
+  pub pipe : after ≡ m.pipe

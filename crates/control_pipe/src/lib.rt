@@ -1,42 +1,71 @@
-// Chapter 8 of USB 2.0: how the bytes of a control transfer travel through endpoint 0, stage by stage.
-// Every function is total: a pipe of any numbers, a packet, a book or a room of any length gets an answer.
+//! Chapter 8 of USB 2.0: how the bytes of a control transfer travel through endpoint 0, stage by stage.
+//! Every function is total: a pipe of any numbers, a packet, a book or a room of any length gets an answer.
 #![tactic(auto)]
 
-ghost use Rattle.std.specs.Prelude.{◌≡◌, cond, [], ◌∷◌, ◌+◌, ◌-◌, ◌≤◌, min};
-ghost use Rattle.control_pipe.specs.Sizes.{buffer_room};
-ghost use Rattle.common.specs.Bytes.{piece, front};
-ghost use Rattle.control_pipe.specs.Stages.{Took, Left, Sent, moved, still, ready, stalled, opened, at, fresh, idle, begun, begin_out, begin_by, setup_come, grown, filled, add_packet, add_read, end_read, bad_read, out_come, written, bytes_of, chunk, after_chunk, advanced, send_chunk, send_empty, await_status, in_complete, answering, accept_in, accept_out};
+ghost use Rattle.std.specs.Prelude.{◌≡◌, ℕ, cond, false, [], ◌+◌, ◌-◌, ◌≤◌};
+ghost use Rattle.control_pipe.specs.declared.Told.TheVariants.{Nothing, Stalls};
+ghost use Rattle.control_pipe.specs.Stages.{zeros, Took, Sent, Said, Turned, stalled, fresh, idle, begin_by, setup_come, add_packet, add_read, end_read, bad_read, out_come, written, advanced, send_chunk, send_empty, await_status, in_complete, accept_in, accept_out};
 
-use control::{BusAddress, Direction, Parsed, Recipient, Request, RequestType};
+use common::Coded;
+use control::{BusAddress, Direction, Recipient, Request, RequestType};
 
-// The bytes of the control buffer.
+/// The bytes of the control buffer.
 pub const BUFFER: usize = 128;
 
-// Where a control transfer stands.
-#[derive(Clone, Copy)]
+/// Where a control transfer stands (USB 2.0 section 8.5.3). The discriminants are its codes in bytes.
+#[derive(Clone, Copy, Debug, PartialEq, Eq)]
 pub enum Stage {
-    Idle,
-    DataIn,
-    DataInZlp,
-    DataInLast,
-    CompleteIn,
-    StatusOut,
-    CompleteOut,
-    DataOut,
-    StatusIn,
-    Error,
+    Idle = 0,
+    DataIn = 1,
+    DataInZlp = 2,
+    DataInLast = 3,
+    CompleteIn = 4,
+    StatusOut = 5,
+    CompleteOut = 6,
+    DataOut = 7,
+    StatusIn = 8,
+    Error = 9,
 }
 
-// What the one read of an event gives.
-#[derive(Clone, Copy)]
+impl Coded for Stage {
+    ghost use Rattle.control_pipe.specs.Codes.{stage_code, stage_of, stage_back};
+
+    ghost code = { stage_code };
+
+    ghost named = { stage_of };
+
+    ghost back = { stage_back };
+
+    fn code(self) -> u8 {
+        self as u8
+    }
+
+    fn of_code(n: u8) -> Stage {
+        match n {
+            0 => Stage::Idle,
+            1 => Stage::DataIn,
+            2 => Stage::DataInZlp,
+            3 => Stage::DataInLast,
+            4 => Stage::CompleteIn,
+            5 => Stage::StatusOut,
+            6 => Stage::CompleteOut,
+            7 => Stage::DataOut,
+            8 => Stage::StatusIn,
+            _ => Stage::Error,
+        }
+    }
+}
+
+/// What the one read of an event gives: a packet, nothing yet, or a fault of the bus.
+#[derive(Clone, Copy, Debug, PartialEq, Eq)]
 pub enum Read {
     Packet,
     Block,
     Fault,
 }
 
-// What the bus is told of endpoint 0. `Write` and `Refused` count the bytes of the packet at the front of the room.
-#[derive(Clone, Copy)]
+/// What the bus is told of endpoint 0. `Write` and `Refused` count the bytes of the packet at the front of the room.
+#[derive(Clone, Copy, Debug, PartialEq, Eq)]
 pub enum Told {
     Nothing,
     Unstalls,
@@ -47,16 +76,37 @@ pub enum Told {
     Refused(u8),
 }
 
-// Where the bytes of an IN answer lie.
-#[derive(Clone, Copy)]
+/// Where the bytes of an IN answer lie. The discriminants are its codes in bytes.
+#[derive(Clone, Copy, Debug, PartialEq, Eq)]
 pub enum Source {
-    Buffer,
-    Book,
+    Buffer = 0,
+    Book = 1,
 }
 
-// The IN answer: `len` bytes of its source from `start` on, of which `sent` are sent. The source stands last: before `start` the
-// two are packed into one number and unpacked at every copy.
-#[derive(Clone, Copy)]
+impl Coded for Source {
+    ghost use Rattle.control_pipe.specs.Codes.{source_code, source_of, source_back};
+
+    ghost code = { source_code };
+
+    ghost named = { source_of };
+
+    ghost back = { source_back };
+
+    fn code(self) -> u8 {
+        self as u8
+    }
+
+    fn of_code(n: u8) -> Source {
+        match n {
+            0 => Source::Buffer,
+            _ => Source::Book,
+        }
+    }
+}
+
+/// The IN answer: `len` bytes of its source from `start` on, of which `sent` are sent.
+// The source stands last: before `start` the two are packed into one number and unpacked at every copy.
+#[derive(Clone, Copy, Debug, PartialEq, Eq)]
 pub struct Reply {
     pub start: u32,
     pub len: u32,
@@ -64,16 +114,16 @@ pub struct Reply {
     pub source: Source,
 }
 
-// The OUT data: bytes awaited, and bytes held in the buffer.
-#[derive(Clone, Copy)]
+/// The OUT data: bytes awaited, and bytes held in the buffer.
+#[derive(Clone, Copy, Debug, PartialEq, Eq)]
 pub struct Coming {
     pub awaited: u16,
     pub held: u16,
 }
 
-// What an accepted SETUP drops: endpoint 0's stage and halts, the address to take when the status stage completes (0 for none),
-// the request of the last accepted SETUP, and its data.
-#[derive(Clone, Copy)]
+/// What an accepted SETUP drops: endpoint 0's stage and halts, the address to take when the status stage completes (0 for none),
+/// the request of the last accepted SETUP, and its data.
+#[derive(Clone, Copy, Debug, PartialEq, Eq)]
 pub struct Pipe {
     pub stage: Stage,
     pub stallout: bool,
@@ -84,12 +134,38 @@ pub struct Pipe {
     pub reply: Reply,
 }
 
-// What the pipe does at once. `done`: a request is complete, or at an IN-complete a status stage.
-#[derive(Clone, Copy)]
+/// At a SETUP or an OUT packet: what the bus is told, and whether a request is complete.
+#[derive(Clone, Copy, Debug, PartialEq, Eq)]
+pub struct Heard {
+    pub told: Told,
+    pub complete: bool,
+}
+
+impl Heard {
+    /// Nothing is told, and no request is complete.
+    pub fn nothing() -> Heard
+        ensures { result ≡ record { told = Nothing; complete = false } }
+    {
+        Heard {
+            told: Told::Nothing,
+            complete: false,
+        }
+    }
+}
+
+/// At an IN-complete: what the bus is told, and whether a status stage is complete.
+#[derive(Clone, Copy, Debug, PartialEq, Eq)]
 pub struct Moved {
-    pub pipe: Pipe,
     pub told: Told,
     pub done: bool,
+}
+
+/// What a packet is sent with: endpoint 0's packet size, whether the bus takes the write, and the lent book.
+#[derive(Clone, Copy)]
+pub struct Bus<'a> {
+    pub size: u8,
+    pub taken: bool,
+    pub book: &'a [u8],
 }
 
 impl Pipe {
@@ -97,25 +173,23 @@ impl Pipe {
     fn fresh(stage: Stage, request: Request, awaited: u16) -> Pipe
         ensures { result ≡ fresh stage request awaited }
     {
-        let coming = Coming { awaited, held: 0 };
-        let reply = Reply {
-            source: Source::Buffer,
-            start: 0,
-            len: 0,
-            sent: 0,
-        };
         Pipe {
             stage,
             stallout: false,
             stallin: false,
             pending: BusAddress(0),
             request,
-            coming,
-            reply,
+            coming: Coming { awaited, held: 0 },
+            reply: Reply {
+                start: 0,
+                len: 0,
+                sent: 0,
+                source: Source::Buffer,
+            },
         }
     }
 
-    // At building, and after a reset.
+    /// At building, and after a reset: no request, nothing awaited, no halts.
     pub fn idle() -> Pipe
         ensures { result ≡ idle }
     {
@@ -131,248 +205,122 @@ impl Pipe {
         Pipe::fresh(Stage::Idle, request, 0)
     }
 
-    fn at(self, stage: Stage) -> Pipe
-        ensures { result ≡ at stage self }
+    /// Both directions of endpoint 0 stall until the next SETUP (USB 2.0 section 8.5.3.4).
+    pub fn stall(&mut self) -> Told
+        ensures { Turned result self.new (stalled self.old []) }
     {
-        let pending = self.pending;
-        let request = self.request;
-        let coming = self.coming;
-        let reply = self.reply;
-        Pipe {
-            stage,
-            stallout: self.stallout,
-            stallin: self.stallin,
-            pending,
-            request,
-            coming,
-            reply,
-        }
-    }
-
-    // Nothing happens.
-    pub fn still(self) -> Moved
-        ensures { result ≡ moved (still self []) }
-    {
-        Moved {
-            pipe: self,
-            told: Told::Nothing,
-            done: false,
-        }
-    }
-
-    fn ready(self) -> Moved
-        ensures { result ≡ moved (ready self []) }
-    {
-        Moved {
-            pipe: self,
-            told: Told::Nothing,
-            done: true,
-        }
-    }
-
-    // A SETUP ends the halts of endpoint 0.
-    fn opened(self, done: bool) -> Moved
-        ensures { result ≡ moved (opened self done) }
-    {
-        Moved {
-            pipe: self,
-            told: Told::Unstalls,
-            done,
-        }
-    }
-
-    // Both directions stall.
-    pub fn stalled(self) -> Moved
-        ensures { result ≡ moved (stalled self []) }
-    {
-        let mut pipe = self.at(Stage::Error);
-        pipe.stallout = true;
-        pipe.stallin = true;
-        Moved {
-            pipe,
-            told: Told::Stalls,
-            done: false,
-        }
+        self.stage = Stage::Error;
+        self.stallout = true;
+        self.stallin = true;
+        Told::Stalls
     }
 }
 
 // SETUP
 impl Pipe {
-    fn begin_out(request: Request) -> Moved
-        ensures { result ≡ moved (begin_out request) }
+    // An accepted SETUP of this request. More OUT data than the buffer holds stalls at once.
+    #[tactic(auto, unfolding(crate::specs::Stages::begin_by, crate::specs::Stages::begin_out))]
+    fn begin(&mut self, request: Request) -> Heard
+        ensures { Took result self.new zeros (begin_by request.direction request) }
     {
-        let n = request.length;
-        if n == 0 {
-            return Pipe::fresh(Stage::CompleteOut, request, 0).opened(true);
-        }
-        if n as usize <= BUFFER {
-            return Pipe::fresh(Stage::DataOut, request, n).opened(false);
-        }
-        let mut pipe = Pipe::fresh(Stage::Error, request, 0);
-        pipe.stallout = true;
-        pipe.stallin = true;
-        Moved {
-            pipe,
-            told: Told::UnstallsStalls,
-            done: false,
-        }
-    }
-
-    fn begin_by(direction: Direction, request: Request) -> Moved
-        ensures { result ≡ moved (begin_by direction request) }
-    {
-        match direction {
-            Direction::Out => Pipe::begin_out(request),
-            Direction::In => Pipe::fresh(Stage::CompleteIn, request, 0).opened(true),
-        }
-    }
-
-    fn begin(self, answer: Parsed, buffer: &mut [u8; BUFFER]) -> Moved
-        ensures { Took result buffer.new (begun answer self buffer.old) }
-    {
-        match answer {
-            Parsed::Good(request) => {
-                common::clear(buffer);
-                let direction = request.direction;
-                Pipe::begin_by(direction, request)
+        let (stage, awaited, complete) = match (request.direction, request.length) {
+            (Direction::In, _) => (Stage::CompleteIn, 0, true),
+            (Direction::Out, 0) => (Stage::CompleteOut, 0, true),
+            (Direction::Out, n) if n as usize <= BUFFER => (Stage::DataOut, n, false),
+            (Direction::Out, _) => {
+                *self = Pipe::fresh(Stage::Error, request, 0);
+                self.stall();
+                return Heard {
+                    told: Told::UnstallsStalls,
+                    complete: false,
+                };
             }
-            Parsed::Refused(_) => self.still(),
+        };
+        *self = Pipe::fresh(stage, request, awaited);
+        Heard {
+            told: Told::Unstalls,
+            complete,
         }
     }
 
-    // A SETUP of endpoint 0: accepted if it is read as eight bytes, else ignored.
-    pub fn setup_come(self, read: Read, packet: &[u8], buffer: &mut [u8; BUFFER]) -> Moved
-        ensures { Took result buffer.new (setup_come read packet.now self buffer.old) }
+    /// A SETUP of endpoint 0 (USB 2.0 section 8.5.3): accepted if it is read as eight bytes, else ignored. An accepted one clears
+    /// the buffer.
+    #[tactic(auto, unfolding(crate::specs::Stages::setup_come, crate::specs::Stages::begun))]
+    pub fn setup_come(&mut self, read: Read, packet: &[u8], buffer: &mut [u8; BUFFER]) -> Heard
+        ensures { Took result self.new buffer.new (setup_come read packet.now self.old buffer.old) }
     {
-        match read {
-            Read::Packet => self.begin(Request::parse(packet), buffer),
-            Read::Block => self.still(),
-            Read::Fault => self.still(),
-        }
+        let (Read::Packet, Ok(request)) = (read, Request::parse(packet)) else {
+            return Heard::nothing();
+        };
+        common::clear(buffer);
+        self.begin(request)
     }
-}
-
-// The room for OUT data behind the bytes held.
-fn spare(held: usize) -> usize
-    ensures { result ≡ buffer_room - held }
-{
-    if BUFFER < held { 0 } else { BUFFER - held }
 }
 
 // OUT
 impl Pipe {
-    // Complete when the bytes so far reach what is awaited.
-    fn filled(self) -> Moved
-        ensures { result ≡ moved (filled self []) }
-    {
-        if self.coming.awaited <= self.coming.held {
-            return self.at(Stage::CompleteOut).ready();
-        }
-        self.at(Stage::DataOut).still()
-    }
-
-    fn add_packet(self, packet: &[u8], buffer: &mut [u8; BUFFER]) -> Moved
-        ensures { Took result buffer.new (add_packet packet.now self buffer.old) }
+    // A data packet: a fault if the rest of the buffer does not take it, and the request is complete when the bytes so far reach
+    // what is awaited.
+    #[tactic(auto, using(crate::proofs::Laws::added), unfolding(crate::specs::Stages::add_packet))]
+    fn add_packet(&mut self, packet: &[u8], buffer: &mut [u8; BUFFER]) -> Heard
+        ensures { Took result self.new buffer.new (add_packet packet.now self.old buffer.old) }
     {
         let n = packet.len();
         let held = self.coming.held as usize;
-        if spare(held) < n {
-            return self.stalled();
+        if BUFFER.saturating_sub(held) < n {
+            return self.fault();
         }
         common::put(packet, 0, n, buffer, held);
-        let mut pipe = self;
-        let sum = (held + n) as u16;
-        pipe.coming.held = sum;
-        pipe.filled()
-    }
-
-    // In the OUT data stage.
-    fn add_read(self, read: Read, packet: &[u8], buffer: &mut [u8; BUFFER]) -> Moved
-        ensures { Took result buffer.new (add_read read packet.now self buffer.old) }
-    {
-        match read {
-            Read::Packet => self.add_packet(packet, buffer),
-            Read::Block => self.still(),
-            Read::Fault => self.stalled(),
+        self.coming.held += n as u16;
+        let complete = self.coming.awaited <= self.coming.held;
+        self.stage = if complete {
+            Stage::CompleteOut
+        } else {
+            Stage::DataOut
+        };
+        Heard {
+            told: Told::Nothing,
+            complete,
         }
     }
 
-    // In an IN transfer: the host's status, early or not.
-    fn end_read(self, read: Read, n: usize) -> Moved
-        ensures { Left result (end_read read n self) }
+    fn fault(&mut self) -> Heard
+        ensures heard { result ≡ record { told = Stalls; complete = false } }
+        ensures pipe { self.new ≡ (stalled self.old []).pipe }
     {
-        match read {
-            Read::Packet => {
-                if n == 0 {
-                    return self.at(Stage::Idle).still();
-                }
-                self.still()
+        Heard {
+            told: self.stall(),
+            complete: false,
+        }
+    }
+
+    /// An OUT packet of endpoint 0 (USB 2.0 sections 8.5.3 and 8.5.3.1): data in the OUT data stage, the host's status in an IN
+    /// transfer, else a fault. Where no data is due, only an empty packet counts.
+    #[tactic(auto, unfolding(crate::specs::Stages::out_come, crate::specs::Stages::out_at, crate::specs::Stages::add_read, crate::specs::Stages::end_read, crate::specs::Stages::bad_read))]
+    pub fn out_come(&mut self, read: Read, packet: &[u8], buffer: &mut [u8; BUFFER]) -> Heard
+        ensures { Took result self.new buffer.new (out_come read packet.now self.old buffer.old) }
+    {
+        match (self.stage, read) {
+            (Stage::DataOut, Read::Packet) => self.add_packet(packet, buffer),
+            (Stage::DataOut, Read::Fault) => self.fault(),
+            (_, Read::Block | Read::Fault) => Heard::nothing(),
+            (_, Read::Packet) if !packet.is_empty() => Heard::nothing(),
+            (
+                Stage::DataIn | Stage::DataInZlp | Stage::DataInLast | Stage::StatusOut,
+                Read::Packet,
+            ) => {
+                self.stage = Stage::Idle;
+                Heard::nothing()
             }
-            Read::Block => self.still(),
-            Read::Fault => self.still(),
+            (
+                Stage::Idle
+                | Stage::CompleteIn
+                | Stage::CompleteOut
+                | Stage::StatusIn
+                | Stage::Error,
+                Read::Packet,
+            ) => self.fault(),
         }
-    }
-
-    // Where no OUT packet is due.
-    fn bad_read(self, read: Read, n: usize) -> Moved
-        ensures { Left result (bad_read read n self) }
-    {
-        match read {
-            Read::Packet => {
-                if n == 0 {
-                    return self.stalled();
-                }
-                self.still()
-            }
-            Read::Block => self.still(),
-            Read::Fault => self.still(),
-        }
-    }
-
-    // An OUT packet of endpoint 0.
-    pub fn out_come(self, read: Read, packet: &[u8], buffer: &mut [u8; BUFFER]) -> Moved
-        ensures { Took result buffer.new (out_come read packet.now self buffer.old) }
-    {
-        let stage = self.stage;
-        match stage {
-            Stage::DataOut => self.add_read(read, packet, buffer),
-            Stage::DataIn | Stage::DataInZlp | Stage::DataInLast | Stage::StatusOut =>
-                self.end_read(read, packet.len()),
-            Stage::Idle | Stage::CompleteIn | Stage::CompleteOut | Stage::StatusIn | Stage::Error =>
-                self.bad_read(read, packet.len()),
-        }
-    }
-}
-
-// What is left of `len`; 0 where more was sent.
-fn left(len: u32, sent: u32) -> u32
-    ensures { result ≡ len - sent }
-{
-    if len < sent { 0 } else { len - sent }
-}
-
-// n of what is left.
-fn further(len: u32, sent: u32, n: u8) -> u32
-    requires { n ≤ len - sent }
-    ensures { result ≡ sent + n }
-{
-    sent + n as u32
-}
-
-fn least(a: u32, b: u32) -> u32
-    ensures { result ≡ min a b }
-{
-    if a < b { a } else { b }
-}
-
-// Of n bytes, as many as the host asked for.
-fn wanted(n: usize, length: u16) -> u32
-    ensures { result ≡ min n length }
-{
-    if n < length as usize {
-        n as u32
-    } else {
-        length as u32
     }
 }
 
@@ -381,189 +329,130 @@ fn written(taken: bool, n: u8) -> Told
     ensures { result ≡ written taken n }
 {
     if taken {
-        return Told::Write(n);
-    }
-    Told::Refused(n)
-}
-
-// The n bytes of the answer's source from `from` on go to the front of the room.
-fn put_chunk(
-    source: Source,
-    from: usize,
-    n: usize,
-    buffer: &[u8; BUFFER],
-    book: &[u8],
-    room: &mut [u8],
-)
-    ensures { room.new ≡ front (piece from n (bytes_of source buffer.now book.now)) room.old }
-{
-    match source {
-        Source::Buffer => common::put(buffer, from, n, room, 0),
-        Source::Book => common::put(book, from, n, room, 0),
+        Told::Write(n)
+    } else {
+        Told::Refused(n)
     }
 }
 
 // IN
 impl Pipe {
-    // Where a taken chunk of n bytes leads.
-    fn after_chunk(self, size: u8, n: u8) -> Stage
-        ensures { result ≡ after_chunk size n self }
+    // A chunk of n bytes is taken. An empty packet follows the last one if it was full.
+    #[tactic(auto, unfolding(crate::specs::Stages::advanced, crate::specs::Stages::after_chunk))]
+    fn advance(&mut self, size: u8, n: u8)
+        requires { n ≤ self.old.reply.len - self.old.reply.sent }
+        ensures { self.new ≡ advanced size n self.old }
     {
-        if self.reply.sent as usize + (n as usize) < self.reply.len as usize {
-            return Stage::DataIn;
-        }
-        if n == size {
-            return Stage::DataInZlp;
-        }
-        Stage::DataInLast
+        let Reply { len, sent, .. } = self.reply;
+        let sent = sent + n as u32;
+        self.reply.sent = sent;
+        self.stage = if sent < len {
+            Stage::DataIn
+        } else if n == size {
+            Stage::DataInZlp
+        } else {
+            Stage::DataInLast
+        };
     }
 
-    fn advanced(self, size: u8, n: u8) -> Pipe
-        requires { n ≤ self.reply.len - self.reply.sent }
-        ensures { result ≡ advanced size n self }
+    // The next chunk goes to the front of the room; a refused write leaves the pipe as it is.
+    #[tactic(auto, using(crate::proofs::Laws::fronts), unfolding(crate::specs::Stages::send_chunk))]
+    fn send_chunk(&mut self, bus: &Bus, buffer: &[u8; BUFFER], room: &mut [u8]) -> Told
+        ensures { Said result self.new room.new (send_chunk bus.now.size bus.now.taken bus.now.book.now self.old buffer.now) room.old }
     {
-        let mut pipe = self.at(self.after_chunk(size, n));
-        let sent = further(self.reply.len, self.reply.sent, n);
-        pipe.reply.sent = sent;
-        pipe
-    }
-
-    fn onward(self, size: u8, taken: bool, n: u8) -> Pipe
-        requires { n ≤ self.reply.len - self.reply.sent }
-        ensures { result ≡ cond taken (advanced size n self) self }
-    {
-        if taken {
-            return self.advanced(size, n);
-        }
-        self
-    }
-
-    // The next chunk; a refused write leaves the pipe as it is.
-    fn send_chunk(
-        self,
-        size: u8,
-        taken: bool,
-        buffer: &[u8; BUFFER],
-        book: &[u8],
-        room: &mut [u8],
-    ) -> Moved
-        ensures { Sent result room.new (send_chunk size taken book.now self buffer.now) room.old }
-    {
-        let reply = self.reply;
-        let n = least(left(reply.len, reply.sent), size as u32);
-        let source = reply.source;
-        put_chunk(
+        let Reply {
+            start,
+            len,
+            sent,
             source,
-            reply.start as usize + reply.sent as usize,
-            n as usize,
-            buffer,
-            book,
-            room,
-        );
-        let few = n as u8;
-        Moved {
-            pipe: self.onward(size, taken, few),
-            told: written(taken, few),
-            done: false,
+        } = self.reply;
+        let n = len.saturating_sub(sent).min(bus.size as u32) as u8;
+        let bytes: &[u8] = match source {
+            Source::Buffer => buffer,
+            Source::Book => bus.book,
+        };
+        common::put(bytes, start as usize + sent as usize, n as usize, room, 0);
+        if bus.taken {
+            self.advance(bus.size, n);
         }
+        written(bus.taken, n)
     }
 
     // An empty packet, and the stage that it leads to.
-    fn send_empty(self, taken: bool, next: Stage) -> Moved
-        ensures { result ≡ moved (send_empty taken next self []) }
+    fn send_empty(&mut self, taken: bool, next: Stage) -> Told
+        ensures { Turned result self.new (send_empty taken next self.old []) }
     {
         if taken {
-            return Moved {
-                pipe: self.at(next),
-                told: written(taken, 0),
-                done: false,
-            };
+            self.stage = next;
         }
-        Moved {
-            pipe: self,
-            told: written(taken, 0),
-            done: false,
-        }
+        written(taken, 0)
     }
 
     // All is sent: the host's status may come.
-    fn await_status(self) -> Moved
-        ensures { result ≡ moved (await_status self []) }
+    fn await_status(&mut self) -> Told
+        ensures { Turned result self.new (await_status self.old []) }
     {
-        let mut pipe = self.at(Stage::StatusOut);
-        pipe.stallout = false;
-        Moved {
-            pipe,
-            told: Told::UnstallOut,
-            done: false,
-        }
+        self.stage = Stage::StatusOut;
+        self.stallout = false;
+        Told::UnstallOut
     }
 
-    // An IN-complete of endpoint 0.
-    pub fn in_complete(
-        self,
-        size: u8,
-        taken: bool,
-        buffer: &[u8; BUFFER],
-        book: &[u8],
-        room: &mut [u8],
-    ) -> Moved
-        ensures { Sent result room.new (in_complete size taken book.now self buffer.now) room.old }
+    /// An IN-complete of endpoint 0 (USB 2.0 sections 8.5.3 and 8.5.3.2): the next packet of an answer, or the end of its stage.
+    /// A packet is at the front of the room, which is else as it was; so it is where it does not take the packet.
+    #[tactic(auto, using(crate::proofs::Laws::fronts), unfolding(crate::specs::Stages::in_complete, crate::specs::Stages::in_at, crate::specs::Stages::send_chunk))]
+    pub fn in_complete(&mut self, bus: &Bus, buffer: &[u8; BUFFER], room: &mut [u8]) -> Moved
+        ensures { Sent result self.new room.new (in_complete bus.now.size bus.now.taken bus.now.book.now self.old buffer.now) room.old }
     {
-        let stage = self.stage;
-        match stage {
-            Stage::DataIn => self.send_chunk(size, taken, buffer, book, room),
-            Stage::DataInZlp => self.send_empty(taken, Stage::DataInLast),
+        let told = match self.stage {
+            Stage::DataIn => self.send_chunk(bus, buffer, room),
+            Stage::DataInZlp => self.send_empty(bus.taken, Stage::DataInLast),
             Stage::DataInLast => self.await_status(),
-            Stage::StatusIn => self.at(Stage::Idle).ready(),
+            Stage::StatusIn => {
+                self.stage = Stage::Idle;
+                return Moved {
+                    told: Told::Nothing,
+                    done: true,
+                };
+            }
             Stage::Idle
             | Stage::CompleteIn
             | Stage::StatusOut
             | Stage::CompleteOut
             | Stage::DataOut
-            | Stage::Error => self.still(),
-        }
+            | Stage::Error => Told::Nothing,
+        };
+        Moved { told, done: false }
     }
 }
 
 // How a complete request is answered.
 impl Pipe {
-    fn answering(self, source: Source, start: u32, n: usize) -> Pipe
-        ensures { result ≡ answering source start n self }
-    {
-        let len = wanted(n, self.request.length);
-        let mut pipe = self.at(Stage::DataIn);
-        let reply = Reply {
-            source,
-            start,
-            len,
-            sent: 0,
-        };
-        pipe.reply = reply;
-        pipe
-    }
-
-    // IN: n bytes of a source, or as many as the host asked for; the first packet goes at once.
+    /// IN: `n` bytes of a source from `start` on, or as many as the host asked for; the first packet goes at once to the front of
+    /// the room.
     pub fn accept_in(
-        self,
+        &mut self,
         source: Source,
         start: u32,
         n: usize,
-        size: u8,
-        taken: bool,
+        bus: &Bus,
         buffer: &[u8; BUFFER],
-        book: &[u8],
         room: &mut [u8],
-    ) -> Moved
-        ensures { Sent result room.new (accept_in source start n size taken book.now self buffer.now) room.old }
+    ) -> Told
+        ensures { Said result self.new room.new (accept_in source start n bus.now.size bus.now.taken bus.now.book.now self.old buffer.now) room.old }
     {
-        self.answering(source, start, n)
-            .send_chunk(size, taken, buffer, book, room)
+        self.stage = Stage::DataIn;
+        self.reply = Reply {
+            start,
+            len: n.min(self.request.length as usize) as u32,
+            sent: 0,
+            source,
+        };
+        self.send_chunk(bus, buffer, room)
     }
 
-    // OUT: an empty packet is the status.
-    pub fn accept_out(self, taken: bool) -> Moved
-        ensures { result ≡ moved (accept_out taken self []) }
+    /// OUT: an empty packet is the status. A refused write leaves the request to be answered.
+    pub fn accept_out(&mut self, taken: bool) -> Told
+        ensures { Turned result self.new (accept_out taken self.old []) }
     {
         self.send_empty(taken, Stage::StatusIn)
     }
