@@ -1,123 +1,146 @@
-// The plan of a device: what its record says apart from languages and strings. It is small, and passed by value.
-// A person fills it with its methods. What has no place spoils a count, so that refusal 2 tells of it: nothing is dropped in
-// silence. What lies beyond a count is not looked at.
+//! The plan of a device: what its record says apart from languages and strings.
+//!
+//! A person fills a plan with its methods. What has no place spoils a count, so that refusal 2 tells of it: nothing is dropped
+//! in silence. What lies beyond a count is not looked at.
 #![tactic(auto)]
 
-ghost use Rattle.std.specs.Prelude.{◌≡◌};
-ghost use Rattle.plan.specs.Planning.{add_interface, add_endpoint, bare, with_interface, with_endpoint};
+ghost use Rattle.std.specs.Prelude.{◌≡◌, ◌≤◌, length};
+ghost use Rattle.plan.specs.Sizes.{spoilt};
+ghost use Rattle.plan.specs.Planning.{next_list, next_count, bare, with_interface, with_endpoint};
 
+use common::Coded;
 use control::EndpointAddress;
 
-// The sizes, each named once.
+/// The most interfaces of a plan.
 pub const INTERFACES: usize = 4;
 
+/// The most endpoints of a plan, endpoint 0 not counted.
 pub const ENDPOINTS: usize = 8;
 
-// A count or a length that no good record has.
+/// A count or a length that no good record has.
 pub const SPOILT: u8 = 255;
 
-// What a plan says apart from its lists. Power is in units of 2 mA.
-#[derive(Clone, Copy)]
+/// What a plan says apart from its lists.
+#[derive(Clone, Copy, Debug, PartialEq, Eq)]
 pub struct Basics {
+    /// Endpoint 0's packet size in bytes: 8, 16, 32 or 64 in a good record.
     pub packet: u8,
     pub class: u8,
     pub subclass: u8,
     pub protocol: u8,
     pub vendor: u16,
     pub product: u16,
+    /// The release of the device in binary-coded decimal (`bcdDevice`).
     pub release: u16,
+    /// The power that the device draws, in units of 2 mA.
     pub power: u8,
+    /// Whether the device may be self-powered.
     pub powered: bool,
+    /// Whether the device may wake the host.
     pub wakeup: bool,
+    /// Whether an address is set as soon as its request is decided.
     pub quirk: bool,
 }
 
-#[derive(Clone, Copy)]
+/// An interface; its number is how many stand before it.
+#[derive(Clone, Copy, Debug, PartialEq, Eq)]
 pub struct Interface {
     pub class: u8,
     pub subclass: u8,
     pub protocol: u8,
 }
 
-#[derive(Clone, Copy)]
+/// How an endpoint transfers (USB 2.0 sections 5.7 and 5.8).
+#[derive(Clone, Copy, Debug, PartialEq, Eq)]
 pub enum Kind {
-    Bulk,
-    Interrupt,
+    Bulk = 0,
+    Interrupt = 1,
 }
 
-#[derive(Clone, Copy)]
+/// An endpoint of an interface.
+#[derive(Clone, Copy, Debug, PartialEq, Eq)]
 pub struct Endpoint {
     pub address: EndpointAddress,
     pub kind: Kind,
+    /// The most bytes of a packet.
     pub size: u8,
+    /// `bInterval` (USB 2.0, table 9-13).
     pub interval: u8,
+    /// The number of the interface that it belongs to.
     pub interface: u8,
 }
 
-#[derive(Clone, Copy)]
+/// The first `count` of the list are the interfaces.
+#[derive(Clone, Copy, Debug, PartialEq, Eq)]
 pub struct Interfaces {
     pub count: u8,
     pub list: [Interface; INTERFACES],
 }
 
-#[derive(Clone, Copy)]
+/// The first `count` of the list are the endpoints.
+#[derive(Clone, Copy, Debug, PartialEq, Eq)]
 pub struct Endpoints {
     pub count: u8,
     pub list: [Endpoint; ENDPOINTS],
 }
 
-// `languages` counts the languages that a record adds.
-#[derive(Clone, Copy)]
+/// The plan of a device.
+#[derive(Clone, Copy, Debug, PartialEq, Eq)]
 pub struct Plan {
     pub basics: Basics,
     pub interfaces: Interfaces,
     pub endpoints: Endpoints,
+    /// How many languages a record adds.
     pub languages: u8,
 }
 
-impl Interfaces {
-    fn with(self, x: Interface) -> Interfaces
-        ensures { result ≡ add_interface x self }
-    {
-        let mut next = self;
-        let n = self.count as usize;
-        if INTERFACES <= n {
-            next.count = SPOILT;
-            return next;
+impl Coded for Kind {
+    ghost use Rattle.plan.specs.Codes.{kind_code, kind_of, kind_back};
+
+    ghost code = { kind_code };
+
+    ghost named = { kind_of };
+
+    ghost back = { kind_back };
+
+    fn code(self) -> u8 {
+        self as u8
+    }
+
+    fn of_code(n: u8) -> Kind {
+        match n {
+            0 => Kind::Bulk,
+            _ => Kind::Interrupt,
         }
-        next.list[n] = x;
-        next.count = self.count + 1;
-        next
     }
 }
 
-impl Endpoints {
-    fn with(self, x: Endpoint) -> Endpoints
-        ensures { result ≡ add_endpoint x self }
-    {
-        let mut next = self;
-        let n = self.count as usize;
-        if ENDPOINTS <= n {
-            next.count = SPOILT;
-            return next;
-        }
-        next.list[n] = x;
-        next.count = self.count + 1;
-        next
+// The next place takes x and is counted; beyond the last place the count is spoilt.
+fn add<T: Copy>(list: &mut [T], count: &mut u8, x: T)
+    requires { length list.old ≤ spoilt }
+    ensures list { list.new ≡ next_list x list.old count.old }
+    ensures count { count.new ≡ next_count (length list.old) count.old }
+{
+    let at = *count as usize;
+    if at < list.len() {
+        list[at] = x;
+        *count += 1;
+    } else {
+        *count = SPOILT;
     }
 }
 
 impl Plan {
-    // A plan with no interface and no endpoint.
+    /// A plan with no interface and no endpoint.
     pub fn new(basics: Basics) -> Plan
         ensures { result ≡ bare basics }
     {
-        let i = Interface {
+        let interface = Interface {
             class: 0,
             subclass: 0,
             protocol: 0,
         };
-        let e = Endpoint {
+        let endpoint = Endpoint {
             address: EndpointAddress(0),
             kind: Kind::Bulk,
             size: 0,
@@ -128,35 +151,37 @@ impl Plan {
             basics,
             interfaces: Interfaces {
                 count: 0,
-                list: [i; INTERFACES],
+                list: [interface; INTERFACES],
             },
             endpoints: Endpoints {
                 count: 0,
-                list: [e; ENDPOINTS],
+                list: [endpoint; ENDPOINTS],
             },
             languages: 0,
         }
     }
 
-    // The next interface; its number is how many were there before it.
-    pub fn with_interface(self, interface: Interface) -> Plan
+    /// The plan with the next interface; its number is how many were there before it.
+    pub fn with_interface(mut self, interface: Interface) -> Plan
         ensures { result ≡ with_interface interface self }
     {
-        let old = self.interfaces;
-        let list = old.with(interface);
-        let mut next = self;
-        next.interfaces = list;
-        next
+        add(
+            &mut self.interfaces.list,
+            &mut self.interfaces.count,
+            interface,
+        );
+        self
     }
 
-    // The next endpoint, in record order.
-    pub fn with_endpoint(self, endpoint: Endpoint) -> Plan
+    /// The plan with the next endpoint, in record order.
+    pub fn with_endpoint(mut self, endpoint: Endpoint) -> Plan
         ensures { result ≡ with_endpoint endpoint self }
     {
-        let old = self.endpoints;
-        let list = old.with(endpoint);
-        let mut next = self;
-        next.endpoints = list;
-        next
+        add(
+            &mut self.endpoints.list,
+            &mut self.endpoints.count,
+            endpoint,
+        );
+        self
     }
 }
