@@ -1,151 +1,135 @@
-// The device record: a plan, with the languages and strings of the device.
-// A person fills it with its methods; nobody computes a place in its flat arrays. What has no place spoils the record, so that
-// refusal 3 tells of it: nothing is dropped in silence. What lies beyond a count is not looked at.
+//! The device record: a plan, with the languages and strings of the device.
+//!
+//! A person fills a record with its methods. What has no place spoils the record, so that refusal 3 tells of it: nothing is
+//! dropped in silence. What lies beyond a count is not looked at.
 #![tactic(auto)]
 
-ghost use Rattle.std.specs.Prelude.{◌≡◌, ◌+◌, ◌≤◌, ◌<◌, length};
-ghost use Rattle.record.specs.Sizes.{names, string_room};
-ghost use Rattle.record.specs.Filling.{bare, with_plan, with_languages, with_language, with_string, with_text, with_length, name_of};
-ghost use Rattle.common.specs.Bytes.{placed};
+ghost use Rattle.std.specs.Prelude.{◌≡◌};
+ghost use Rattle.record.specs.Filling.{bare, started, with_text, with_language, with_string};
 
 use plan::{Plan, SPOILT};
 
-// The sizes, each named once.
+/// The most languages of a record.
 pub const LANGUAGES: usize = 4;
 
+/// The strings of a language: manufacturer, product, serial number.
 pub const NAMES: usize = 3;
 
+/// The most UTF-16 units of a string.
 pub const UNITS: usize = 31;
 
+/// The strings of all languages.
 pub const STRINGS: usize = LANGUAGES * NAMES;
 
+/// The units of all strings.
 pub const TEXT: usize = STRINGS * UNITS;
 
-// `lens` at NAMES * language + name: 0 for no string, else its units and one. `units` at UNITS times that place.
-#[derive(Clone, Copy)]
+/// A string, or none.
+#[derive(Clone, Copy, Debug, PartialEq, Eq)]
+pub struct Text {
+    /// 0 for no string, else its units and one.
+    pub len: u8,
+    /// UTF-16 units; those of the string stand in front.
+    pub units: [u16; UNITS],
+}
+
+/// A language and its strings, each at the place of its name.
+#[derive(Clone, Copy, Debug, PartialEq, Eq)]
+pub struct Language {
+    /// The language's identifier, as 0409h for English (USB 2.0 section 9.6.7).
+    pub id: u16,
+    pub names: [Text; NAMES],
+}
+
+/// The device record. Of the languages, the first `plan.languages` count.
+#[derive(Clone, Copy, Debug, PartialEq, Eq)]
 pub struct Record {
     pub plan: Plan,
-    pub ids: [u16; LANGUAGES],
-    pub lens: [u8; STRINGS],
-    pub units: [u16; TEXT],
+    pub languages: [Language; LANGUAGES],
 }
 
-// The three strings of a language.
-#[derive(Clone, Copy)]
+/// The three strings of a language. As a number, a name is its place among them: its number in a descriptor less one.
+#[derive(Clone, Copy, Debug, PartialEq, Eq)]
 pub enum Name {
-    Manufacturer,
-    Product,
-    Serial,
+    Manufacturer = 0,
+    Product = 1,
+    Serial = 2,
 }
 
-impl Name {
-    // Its place among the strings of a language: its number less one.
-    fn place(self) -> usize
-        ensures { (result ≡ name_of self) × (result < names) }
+impl Text {
+    // The units become the string's; too many spoil its length.
+    fn fill(&mut self, units: &[u16])
+        ensures { self.new ≡ with_text units.now self.old }
     {
-        match self {
-            Name::Manufacturer => 0,
-            Name::Product => 1,
-            Name::Serial => 2,
+        let n = units.len();
+        if n <= UNITS {
+            self.len = n as u8 + 1;
+            self.units[..n].copy_from_slice(units);
+        } else {
+            self.len = SPOILT;
+        }
+    }
+}
+
+impl Language {
+    // The language is another, with no string.
+    fn start(&mut self, id: u16)
+        ensures { self.new ≡ started id self.old }
+    {
+        self.id = id;
+        for text in self.names.iter_mut() {
+            text.len = 0;
         }
     }
 }
 
 impl Record {
-    // A record with no language.
+    /// A record with no language.
     pub fn new(plan: Plan) -> Record
         ensures { result ≡ bare plan }
     {
-        let mut first = plan;
-        first.languages = 0;
+        let none = Text {
+            len: 0,
+            units: [0; UNITS],
+        };
+        let language = Language {
+            id: 0,
+            names: [none; NAMES],
+        };
         Record {
-            plan: first,
-            ids: [0u16; LANGUAGES],
-            lens: [0u8; STRINGS],
-            units: [0u16; TEXT],
+            plan: Plan {
+                languages: 0,
+                ..plan
+            },
+            languages: [language; LANGUAGES],
         }
     }
 
-    // The next language, with no string.
-    pub fn with_language(self, id: u16) -> Record
+    /// The record with the next language, with no string.
+    pub fn with_language(mut self, id: u16) -> Record
         ensures { result ≡ with_language id self }
     {
-        let count = self.plan.languages;
-        let n = count as usize;
-        if LANGUAGES <= n {
-            return self.counting(SPOILT);
+        let n = self.plan.languages as usize;
+        if n < LANGUAGES {
+            self.plan.languages += 1;
+            self.languages[n].start(id);
+        } else {
+            self.plan.languages = SPOILT;
         }
-        let mut ids = self.ids;
-        ids[n] = id;
-        let none = [0u8; NAMES];
-        let mut lens = self.lens;
-        common::put(&none, 0, NAMES, &mut lens, NAMES * n);
-        let mut next = self.counting(count + 1);
-        next.ids = ids;
-        next.lens = lens;
-        next
+        self
     }
 
-    // A string of the language that was added last.
-    pub fn with_string(self, name: Name, units: &[u16]) -> Record
+    /// The record with a string of the language that was added last. One of more than [`UNITS`] units spoils its length, one of
+    /// no language the count of languages.
+    pub fn with_string(mut self, name: Name, units: &[u16]) -> Record
         ensures { result ≡ with_string name units.now self }
     {
         let n = self.plan.languages as usize;
-        if n == 0 {
-            return self.counting(SPOILT);
+        if 0 < n && n <= LANGUAGES {
+            self.languages[n - 1].names[name as usize].fill(units);
+        } else {
+            self.plan.languages = SPOILT;
         }
-        if LANGUAGES < n {
-            return self.counting(SPOILT);
-        }
-        let at = NAMES * (n - 1) + name.place();
-        self.naming(at, units)
-    }
-
-    // The same with the string at a place.
-    fn naming(self, at: usize, units: &[u16]) -> Record
-        requires { at < string_room }
-        ensures { result ≡ with_text at units.now self }
-    {
-        if UNITS < units.len() {
-            return self.measuring(at, SPOILT);
-        }
-        let mut text = self.units;
-        copy_units(units, &mut text, UNITS * at);
-        let mut next = self.measuring(at, units.len() as u8 + 1);
-        next.units = text;
-        next
-    }
-
-    // The same with another count of languages.
-    fn counting(self, languages: u8) -> Record
-        ensures { result ≡ with_plan (with_languages languages self.plan) self }
-    {
-        let mut plan = self.plan;
-        plan.languages = languages;
-        let mut next = self;
-        next.plan = plan;
-        next
-    }
-
-    // The same with another length of the string at a place.
-    fn measuring(self, at: usize, len: u8) -> Record
-        requires { at < string_room }
-        ensures { result ≡ with_length at len self }
-    {
-        let mut next = self;
-        next.lens[at] = len;
-        next
-    }
-}
-
-// The units of a string go to their place.
-fn copy_units(src: &[u16], dst: &mut [u16], at: usize)
-    requires { at + length src.now ≤ length dst.old }
-    ensures { dst.new ≡ placed dst.old at src.now }
-{
-    let mut i: usize = 0;
-    while i < src.len() {
-        dst[at + i] = src[i];
-        i += 1;
+        self
     }
 }
