@@ -1,32 +1,54 @@
-// Chapter 9 of USB 2.0: what a request means. A complete request is decided by what outlives a SETUP, by the halts of endpoint 0
-// and by the book's length alone; what a decision says is then written from the record.
+//! Chapter 9 of USB 2.0: what a request means. A complete request is decided by what outlives a SETUP, by the halts of endpoint 0
+//! and by the book's length alone; what a decision says is then written from the record.
 #![tactic(auto)]
 
-ghost use Rattle.std.specs.Prelude.{◌≡◌, ◌^◌, ◌≤◌, ◌<◌};
-ghost use Rattle.requests.specs.Requests.{endpoint_of, halt_place, with_halt, halted, status_bits, configured_byte, device_in, interface_in, endpoint_in, standard_in, tiles_from, tiles_in, vendor_in, decide_in, set_address, deconfigured, set_configuration, feature, device_out, interface_out, endpoint_out, standard_out, decide_out, decide_by, decided};
+ghost use Rattle.std.specs.Prelude.{◌≡◌, ◌+◌, ◌<◌};
+ghost use Rattle.requests.specs.Requests.{endpoint_of, halt_place, with_halt, halted, status_bits, configured_byte, tiles_from, deconfigured, decided};
 
-use control::{
-    BusAddress, Direction, EndpointAddress, Recipient, Request, RequestType, TileNumber,
-};
+use common::Coded;
+use control::{BusAddress, EndpointAddress, Request, TileNumber};
 use control_pipe::Pipe;
 
-// The bytes of a record of the tile book.
+/// The bytes of a record of the tile book.
 pub const TILE: u32 = 16;
 
-// The code of the vendor's tile read.
+/// The code of the vendor's tile read.
 pub const READ_TILES: u8 = 1;
 
-// The state of the device.
-#[derive(Clone, Copy)]
+/// The state of the device (USB 2.0 section 9.1.1). The discriminants are its codes in bytes.
+#[derive(Clone, Copy, Debug, PartialEq, Eq)]
 pub enum State {
-    Default,
-    Addressed,
-    Configured,
-    Suspend,
+    Default = 0,
+    Addressed = 1,
+    Configured = 2,
+    Suspend = 3,
 }
 
-// What outlives an accepted SETUP. `halts` has endpoint n OUT at bit n and n IN at bit 16 + n, for 1 to 15.
-#[derive(Clone, Copy)]
+impl Coded for State {
+    ghost use Rattle.requests.specs.Codes.{state_code, state_of, state_back};
+
+    ghost code = { state_code };
+
+    ghost named = { state_of };
+
+    ghost back = { state_back };
+
+    fn code(self) -> u8 {
+        self as u8
+    }
+
+    fn of_code(n: u8) -> State {
+        match n {
+            0 => State::Default,
+            1 => State::Addressed,
+            2 => State::Configured,
+            _ => State::Suspend,
+        }
+    }
+}
+
+/// What outlives an accepted SETUP. `halts` has endpoint n OUT at bit n and n IN at bit 16 + n, for 1 to 15.
+#[derive(Clone, Copy, Debug, PartialEq, Eq)]
 pub struct Kept {
     pub state: State,
     pub wakeup: bool,
@@ -34,8 +56,8 @@ pub struct Kept {
     pub halts: u32,
 }
 
-// What an accepted OUT request does.
-#[derive(Clone, Copy)]
+/// What an accepted OUT request does.
+#[derive(Clone, Copy, Debug, PartialEq, Eq)]
 pub enum Effect {
     Nothing,
     Wakeup(bool),
@@ -45,10 +67,9 @@ pub enum Effect {
     Turn(State),
 }
 
-// How a request is answered: stalled; with a status of two bytes, a byte, a descriptor, or the book from a byte on; or accepted.
-#[derive(Clone, Copy)]
+/// How a request is answered: with a status of two bytes, a byte, a descriptor, or the book from a byte on; or accepted.
+#[derive(Clone, Copy, Debug, PartialEq, Eq)]
 pub enum Decision {
-    Stall,
     Status(u8),
     Byte(u8),
     Describe,
@@ -65,281 +86,111 @@ fn endpoint_of(index: u16) -> EndpointAddress
 }
 
 fn halt_place(e: EndpointAddress) -> u32
-    ensures { (result ≡ halt_place e) × (result < 32) }
+    ensures place { result ≡ halt_place e }
+    ensures small { result < 32 }
 {
     (e.0 / 128 * 16 + e.0 % 16) as u32
 }
 
-fn halt_bit(e: EndpointAddress) -> u32
-    ensures { result ≡ 2 ^ halt_place e }
-{
-    1u32 << halt_place(e)
-}
-
 impl Kept {
-    pub fn with_halt(self, e: EndpointAddress, on: bool) -> Kept
-        ensures { result ≡ with_halt e on self }
+    /// The halt of an endpoint 1 to 15 is set or ended.
+    pub fn set_halt(&mut self, e: EndpointAddress, on: bool)
+        ensures { self.new ≡ with_halt e on self.old }
     {
-        let bit = halt_bit(e);
-        let mut next = self;
+        let bit = 1u32 << halt_place(e);
         if on {
-            next.halts = self.halts | bit;
-            return next;
+            self.halts |= bit;
+        } else {
+            self.halts &= !bit;
         }
-        next.halts = self.halts & (0xffffffff - bit);
-        next
+    }
+
+    // GET_STATUS of the device: bit 0 self-powered, bit 1 remote wakeup.
+    fn status(&self) -> u8
+        ensures { result ≡ status_bits self.now.powered 1 + status_bits self.now.wakeup 2 }
+    {
+        self.powered as u8 + 2 * (self.wakeup as u8)
+    }
+
+    // GET_CONFIGURATION: 1 if the device is configured.
+    fn configuration(&self) -> u8
+        ensures { result ≡ configured_byte self.now.state }
+    {
+        matches!(self.state, State::Configured) as u8
     }
 }
 
-fn halted(kept: Kept, pipe: Pipe, e: EndpointAddress) -> bool
-    ensures { result ≡ halted kept pipe e }
+// The halts of endpoint 0 are the pipe's stalls.
+fn halted(kept: &Kept, pipe: &Pipe, e: EndpointAddress) -> bool
+    ensures { result ≡ halted kept.now pipe.now e }
 {
-    if e.0 % 16 != 0 {
-        return (kept.halts >> halt_place(e)) % 2 == 1;
-    }
-    if e.0 < 128 {
-        return pipe.stallout;
-    }
-    pipe.stallin
-}
-
-fn bit(b: bool, n: u8) -> u8
-    ensures { (result ≡ status_bits b n) × (result ≤ n) }
-{
-    if b { n } else { 0 }
-}
-
-fn configured(state: State) -> u8
-    ensures { result ≡ configured_byte state }
-{
-    match state {
-        State::Configured => 1,
-        State::Default => 0,
-        State::Addressed => 0,
-        State::Suspend => 0,
-    }
-}
-
-fn device_in(kept: Kept, code: u8) -> Decision
-    ensures { result ≡ device_in kept code }
-{
-    match code {
-        Request::GET_STATUS => Decision::Status(bit(kept.powered, 1) + bit(kept.wakeup, 2)),
-        Request::GET_DESCRIPTOR => Decision::Describe,
-        Request::GET_CONFIGURATION => {
-            let state = kept.state;
-            Decision::Byte(configured(state))
-        }
-        _ => Decision::Stall,
-    }
-}
-
-fn interface_in(code: u8, index: u16) -> Decision
-    ensures { result ≡ interface_in code index }
-{
-    match code {
-        Request::GET_STATUS => Decision::Status(0),
-        Request::GET_INTERFACE => {
-            if 255 < index {
-                return Decision::Stall;
-            }
-            Decision::Byte(0)
-        }
-        _ => Decision::Stall,
-    }
-}
-
-fn endpoint_in(kept: Kept, pipe: Pipe, code: u8, index: u16) -> Decision
-    ensures { result ≡ endpoint_in kept pipe code index }
-{
-    if code != Request::GET_STATUS {
-        return Decision::Stall;
-    }
-    Decision::Status(bit(halted(kept, pipe, endpoint_of(index)), 1))
-}
-
-fn standard_in(recipient: Recipient, kept: Kept, pipe: Pipe, q: Request) -> Decision
-    ensures { result ≡ standard_in recipient kept pipe q }
-{
-    match recipient {
-        Recipient::Device => device_in(kept, q.request),
-        Recipient::Interface => interface_in(q.request, q.index),
-        Recipient::Endpoint => endpoint_in(kept, pipe, q.request, q.index),
-        Recipient::Other => Decision::Stall,
-        Recipient::Reserved => Decision::Stall,
+    match (e.0 % 16, e.0 < 128) {
+        (0, true) => pipe.stallout,
+        (0, false) => pipe.stallin,
+        _ => (kept.halts >> halt_place(e)) % 2 == 1,
     }
 }
 
 // The book from a record of it on, if it has that record.
-fn tiles_from(first: TileNumber, book: u32) -> Decision
+fn tiles_from(first: TileNumber, book: u32) -> Option<Decision>
     ensures { result ≡ tiles_from first book }
 {
     let number = first.0 as u32;
     if number < book / TILE {
-        return Decision::Tiles(number * TILE);
-    }
-    Decision::Stall
-}
-
-fn tiles_in(q: Request, book: u32) -> Decision
-    ensures { result ≡ tiles_in q book }
-{
-    if q.request != READ_TILES {
-        return Decision::Stall;
-    }
-    if q.index != 0 {
-        return Decision::Stall;
-    }
-    tiles_from(TileNumber(q.value), book)
-}
-
-fn vendor_in(recipient: Recipient, q: Request, book: u32) -> Decision
-    ensures { result ≡ vendor_in recipient q book }
-{
-    match recipient {
-        Recipient::Device => tiles_in(q, book),
-        Recipient::Interface => Decision::Stall,
-        Recipient::Endpoint => Decision::Stall,
-        Recipient::Other => Decision::Stall,
-        Recipient::Reserved => Decision::Stall,
+        Some(Decision::Tiles(number * TILE))
+    } else {
+        None
     }
 }
 
-fn decide_in(kind: RequestType, kept: Kept, pipe: Pipe, q: Request, book: u32) -> Decision
-    ensures { result ≡ decide_in kind kept pipe q book }
-{
-    let recipient = q.recipient;
-    match kind {
-        RequestType::Standard => standard_in(recipient, kept, pipe, q),
-        RequestType::Vendor => vendor_in(recipient, q, book),
-        RequestType::Class => Decision::Stall,
-        RequestType::Reserved => Decision::Stall,
-    }
-}
-
-fn set_address(value: u16) -> Decision
-    ensures { result ≡ set_address value }
-{
-    if value < 1 {
-        return Decision::Stall;
-    }
-    if 127 < value {
-        return Decision::Stall;
-    }
-    Decision::Accept(Effect::Address(BusAddress(value as u8)))
-}
-
+// The default state has no configuration to leave.
 fn deconfigured(state: State) -> Effect
     ensures { result ≡ deconfigured state }
 {
     match state {
         State::Default => Effect::Nothing,
-        State::Addressed => Effect::Turn(State::Addressed),
-        State::Configured => Effect::Turn(State::Addressed),
-        State::Suspend => Effect::Turn(State::Addressed),
+        State::Addressed | State::Configured | State::Suspend => Effect::Turn(State::Addressed),
     }
 }
 
-fn set_configuration(state: State, value: u16) -> Decision
-    ensures { result ≡ set_configuration state value }
+/// How the pipe's request is answered, of a book of so many bytes: USB 2.0 section 9.4, and the vendor's tile read. `None`: both
+/// directions of endpoint 0 stall.
+#[tactic(auto, unfolding(crate::specs::Requests::decided))]
+pub fn decide(kept: &Kept, pipe: &Pipe, book: u32) -> Option<Decision>
+    ensures { result ≡ decided kept.now pipe.now book }
 {
-    match value {
-        1 => Decision::Accept(Effect::Turn(State::Configured)),
-        0 => Decision::Accept(deconfigured(state)),
-        _ => Decision::Stall,
-    }
-}
-
-// The one feature of a recipient.
-fn feature(n: u16, value: u16, effect: Effect) -> Decision
-    ensures { result ≡ feature n value effect }
-{
-    if value == n {
-        return Decision::Accept(effect);
-    }
-    Decision::Stall
-}
-
-fn device_out(state: State, code: u8, value: u16) -> Decision
-    ensures { result ≡ device_out state code value }
-{
-    match code {
-        Request::CLEAR_FEATURE => feature(1, value, Effect::Wakeup(false)),
-        Request::SET_FEATURE => feature(1, value, Effect::Wakeup(true)),
-        Request::SET_ADDRESS => set_address(value),
-        Request::SET_CONFIGURATION => set_configuration(state, value),
-        _ => Decision::Stall,
-    }
-}
-
-fn interface_out(code: u8, value: u16, index: u16) -> Decision
-    ensures { result ≡ interface_out code value index }
-{
-    if code != Request::SET_INTERFACE {
-        return Decision::Stall;
-    }
-    if value != 0 {
-        return Decision::Stall;
-    }
-    if 255 < index {
-        return Decision::Stall;
-    }
-    Decision::Accept(Effect::Nothing)
-}
-
-fn endpoint_out(code: u8, value: u16, index: u16) -> Decision
-    ensures { result ≡ endpoint_out code value index }
-{
-    let e = endpoint_of(index);
-    match code {
-        Request::CLEAR_FEATURE => feature(0, value, Effect::Unhalt(e)),
-        Request::SET_FEATURE => feature(0, value, Effect::Halt(e)),
-        _ => Decision::Stall,
-    }
-}
-
-fn standard_out(recipient: Recipient, kept: Kept, q: Request) -> Decision
-    ensures { result ≡ standard_out recipient kept q }
-{
-    match recipient {
-        Recipient::Device => {
-            let state = kept.state;
-            device_out(state, q.request, q.value)
-        }
-        Recipient::Interface => interface_out(q.request, q.value, q.index),
-        Recipient::Endpoint => endpoint_out(q.request, q.value, q.index),
-        Recipient::Other => Decision::Stall,
-        Recipient::Reserved => Decision::Stall,
-    }
-}
-
-fn decide_out(kind: RequestType, kept: Kept, q: Request) -> Decision
-    ensures { result ≡ decide_out kind kept q }
-{
-    let recipient = q.recipient;
-    match kind {
-        RequestType::Standard => standard_out(recipient, kept, q),
-        RequestType::Class => Decision::Stall,
-        RequestType::Vendor => Decision::Stall,
-        RequestType::Reserved => Decision::Stall,
-    }
-}
-
-fn decide_by(direction: Direction, kept: Kept, pipe: Pipe, q: Request, book: u32) -> Decision
-    ensures { result ≡ decide_by direction kept pipe q book }
-{
-    let kind = q.kind;
-    match direction {
-        Direction::In => decide_in(kind, kept, pipe, q, book),
-        Direction::Out => decide_out(kind, kept, q),
-    }
-}
-
-// How the pipe's request is answered, of a book of so many bytes.
-pub fn decide(kept: Kept, pipe: Pipe, book: u32) -> Decision
-    ensures { result ≡ decided kept pipe book }
-{
+    use Decision::{Accept, Byte, Describe, Status};
+    use Effect::{Address, Halt, Nothing, Turn, Unhalt, Wakeup};
+    use control::Direction::{In, Out};
+    use control::Recipient::{Device, Endpoint, Interface};
+    use control::RequestType::{Standard, Vendor};
     let q = pipe.request;
-    let direction = q.direction;
-    decide_by(direction, kept, pipe, q, book)
+    let e = endpoint_of(q.index);
+    let wakeup = q.value == Request::FEATURE_DEVICE_REMOTE_WAKEUP;
+    let halt = q.value == Request::FEATURE_ENDPOINT_HALT;
+    match (q.direction, q.kind, q.recipient, q.request) {
+        (In, Standard, Device, Request::GET_STATUS) => Some(Status(kept.status())),
+        (In, Standard, Device, Request::GET_DESCRIPTOR) => Some(Describe),
+        (In, Standard, Device, Request::GET_CONFIGURATION) => Some(Byte(kept.configuration())),
+        (In, Standard, Interface, Request::GET_STATUS) => Some(Status(0)),
+        (In, Standard, Interface, Request::GET_INTERFACE) if q.index <= 255 => Some(Byte(0)),
+        (In, Standard, Endpoint, Request::GET_STATUS) => Some(Status(halted(kept, pipe, e) as u8)),
+        (In, Vendor, Device, READ_TILES) if q.index == 0 => tiles_from(TileNumber(q.value), book),
+        (Out, Standard, Device, Request::CLEAR_FEATURE) if wakeup => Some(Accept(Wakeup(false))),
+        (Out, Standard, Device, Request::SET_FEATURE) if wakeup => Some(Accept(Wakeup(true))),
+        (Out, Standard, Device, Request::SET_ADDRESS) if 1 <= q.value && q.value <= 127 => Some(
+            Accept(Address(BusAddress(q.value as u8))),
+        ),
+        (Out, Standard, Device, Request::SET_CONFIGURATION) if q.value == 0 => Some(Accept(
+            deconfigured(kept.state),
+        )),
+        (Out, Standard, Device, Request::SET_CONFIGURATION) if q.value == 1 => Some(Accept(Turn(
+            State::Configured,
+        ))),
+        (Out, Standard, Interface, Request::SET_INTERFACE) if q.value == 0 && q.index <= 255 =>
+            Some(Accept(Nothing)),
+        (Out, Standard, Endpoint, Request::CLEAR_FEATURE) if halt => Some(Accept(Unhalt(e))),
+        (Out, Standard, Endpoint, Request::SET_FEATURE) if halt => Some(Accept(Halt(e))),
+        _ => None,
+    }
 }
