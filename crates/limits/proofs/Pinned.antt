@@ -1,6 +1,6 @@
 -- The public promise settles its outcome. Assumes nothing.
 use Rattle.common.proofs.Once.{Once, equal}
-use Rattle.limits.proofs.broken.Reads as broken
+use Rattle.limits.proofs.check.Reads as check
 
-pub broken-once : Once broken.Post (λ κs x s. x)
-broken-once κs a x y s t = equal
+pub check-once : Once check.Post (λ κs x s. x)
+check-once κs a x y s t = equal

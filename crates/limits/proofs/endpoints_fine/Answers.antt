@@ -1,35 +1,25 @@
-use mathlib.Core.Path.{◌≡◌, sym, ◌∙◌}
-use native.Mathlib.Omega.{arith}
+use mathlib.Core.Path.{◌≡◌, ◌∙◌, sym}
+use mathlib.Core.Bool.{true, false}
+use mathlib.Core.List.{map}
 use borrow.Author.Rules.{rules}
-use lib.ListN.{length}
-use Rattle.common.proofs.Lists.{turn, ended}
-use Rattle.limits.specs.Limits.{list_fine}
-use Rattle.limits.proofs.Laws.{blank, list-bad, list-twice, list-next, list-nil}
+use Rattle.common.specs.Lists.{every, none_twice}
+use Rattle.common.proofs.Laws.{tests, and-false}
+use Rattle.std.proofs.lemmas.Iterator.{YieldsList-from_slice}
+use Rattle.std.proofs.lemmas.Iterator.Search.{all_from_yields_List}
+use Rattle.limits.specs.Limits.{address_of, endpoint_fine}
+use Rattle.limits.proofs.Laws.{every-all, and-true}
 use Rattle.limits.proofs.endpoints_fine.Goals as goal
 
-pub returns-then-not-endpoint_fine : goal.returns-then-not-endpoint_fine
-returns-then-not-endpoint_fine c =
-    let a = c.args in
-    let w = c.loop-i in
-    let l : length a.list ≡ 8 = search rules in
-    sym (turn (list_fine a.interfaces) a.list a.n w.i blank _ (omega arith) c.loop-i-test.true w.invariant ∙ list-bad _ _ _ (sym c.endpoint_fine.ensures ∙ c.if-not-endpoint_fine.true))
+pub returns-then-none_twice : goal.returns-then-none_twice
+returns-then-none_twice c =
+    let xs = c.args.list.now in
+    let test = endpoint_fine c.args.interfaces in
+    let e : none_twice (map address_of xs) ≡ true = sym c.none_twice.ensures ∙ c.if-none_twice.true in
+    let each = all_from_yields_List test _ _ c.all.result c.all.ensures.ran (YieldsList-from_slice xs cc) (λ x b q k. search (rules, tests)) ∙ every-all test xs in
+    rw e (each ∙ sym (and-true (every test xs)))
 
-pub returns-then-again : goal.returns-then-again
-returns-then-again c =
+pub returns-else-none_twice : goal.returns-else-none_twice
+returns-else-none_twice c =
     let a = c.args in
-    let w = c.loop-i in
-    let l : length a.list ≡ 8 = search rules in
-    sym (turn (list_fine a.interfaces) a.list a.n w.i blank _ (omega arith) c.loop-i-test.true w.invariant ∙ list-twice _ _ _ (sym c.again.ensures ∙ c.if-again.true))
-
-pub loop-i-preserved : goal.loop-i-preserved
-loop-i-preserved c =
-    let a = c.args in
-    let w = c.loop-i in
-    let l : length a.list ≡ 8 = search rules in
-    turn (list_fine a.interfaces) a.list a.n w.i blank _ (omega arith) c.loop-i-test.true w.invariant ∙ list-next _ _ _ (sym c.endpoint_fine.ensures ∙ c.if-not-endpoint_fine.false) (sym c.again.ensures ∙ c.if-again.false)
-
-pub returns : goal.returns
-returns c =
-    let a = c.args in
-    let w = c.loop-i in
-    sym (ended (list_fine a.interfaces) a.list a.n w.i _ c.loop-i-test.false w.invariant ∙ list-nil a.interfaces)
+    let e : none_twice (map address_of a.list.now) ≡ false = sym c.none_twice.ensures ∙ c.if-none_twice.false in
+    rw e (c.if-none_twice.false ∙ sym (and-false (every (endpoint_fine a.interfaces) a.list.now)))
