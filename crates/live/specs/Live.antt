@@ -1,6 +1,6 @@
 -- Document 01, "When the mast says no": the states that refusal 9 names, and the order of a step's refusals.
-use Rattle.std.specs.Prelude.{ℕ, ◌+◌, ◌%◌, Bool, true, false, cond, ◌&&◌, List, eqb, leb}
-use Rattle.plan.specs.declared.Plan.{Plan}
+use Rattle.std.specs.Prelude.{ℕ, ◌+◌, ◌%◌, Bool, true, false, cond, ◌&&◌, eqb, leb}
+use Rattle.record.specs.declared.Record.{Record}
 use Rattle.limits.specs.Limits.{lowest}
 use Rattle.control_pipe.specs.Sizes.{buffer_room}
 use Rattle.control_pipe.specs.Stages.{idle}
@@ -30,7 +30,7 @@ unfoldable pub book_fine : ℕ → Bool
 book_fine n = eqb (n % tile_size) 0 && leb n 65536
 
 -- at most 128 OUT bytes held or awaited
-unfoldable pub coming_fine : Coming → Bool
+abbrev pub coming_fine : Coming → Bool
 coming_fine c = leb c.awaited buffer_room && leb c.held buffer_room
 
 -- the bytes that an answer may be read from
@@ -39,11 +39,11 @@ source_room Buffer book = buffer_room
 source_room Book book = book
 
 -- the IN answer inside buffer or book, not sent past its end
-unfoldable pub reply_fine : Reply → ℕ → Bool
+abbrev pub reply_fine : Reply → ℕ → Bool
 reply_fine a book = leb a.sent a.len && leb (a.start + a.len) (source_room a.source book)
 
 -- .. and a pending address 0 to 127
-unfoldable pub pipe_fine : Pipe → ℕ → Bool
+abbrev pub pipe_fine : Pipe → ℕ → Bool
 pipe_fine p book = coming_fine p.coming && reply_fine p.reply book && leb p.pending.0 127
 
 abbrev pub awake : State → Bool
@@ -63,10 +63,10 @@ unfoldable pub live_fine : Live → Bool
 live_fine l = l.built && book_fine l.book && state_fine l.kept.state l.before && pipe_fine l.pipe l.book
 
 -- 9, or 0 for none
-unfoldable pub unfit : Plan → List ℕ → List ℕ → Live → ℕ
-unfit plan ids lens l = cond (live_fine l && eqb (lowest plan ids lens) 0) 0 9
+unfoldable pub unfit : Record → Live → ℕ
+unfit r l = cond (live_fine l && eqb (lowest r) 0) 0 9
 
 -- 9, then 5, then 6
-unfoldable pub step_refusal : Plan → List ℕ → List ℕ → Live → ℕ → ℕ → ℕ
-step_refusal plan ids lens l book room =
-    cond (eqb (unfit plan ids lens l) 0) (cond (eqb book l.book) (cond (leb plan.basics.packet room) 0 6) 5) 9
+unfoldable pub step_refusal : Record → Live → ℕ → ℕ → ℕ
+step_refusal r l book room =
+    cond (eqb (unfit r l) 0) (cond (eqb book l.book) (cond (leb r.plan.basics.packet room) 0 6) 5) 9

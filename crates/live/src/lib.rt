@@ -1,24 +1,24 @@
-// What a device holds beside its record and its buffer, and the tests that stand before every call: refusals 9, 5 and 6.
+//! What a device holds beside its record and its buffer, and the tests that stand before every call: refusals 9, 5 and 6.
 #![tactic(auto)]
 
 ghost use Rattle.std.specs.Prelude.{◌≡◌};
-ghost use Rattle.common.specs.Refusals.{refusal};
-ghost use Rattle.live.specs.Live.{fresh, book_fine, coming_fine, source_room, reply_fine, pipe_fine, awake, state_fine, live_fine, unfit, step_refusal};
+ghost use Rattle.common.specs.Refusals.{unless};
+ghost use Rattle.live.specs.Live.{fresh, book_fine, coming_fine, reply_fine, pipe_fine, state_fine, live_fine, unfit, step_refusal};
 
 use common::Refusal;
 use control_pipe::{BUFFER, Coming, Pipe, Reply, Source};
-use plan::Plan;
-use record::{LANGUAGES, STRINGS};
+use record::Record;
 use requests::{Kept, State, TILE};
 
-// The most bytes of a tile book.
+/// The most bytes of a tile book.
 pub const BOOK: u32 = 65536;
 
-// The highest address on a bus.
+/// The highest address on a bus.
 pub const ADDRESSES: u8 = 127;
 
-// The pipe is what an accepted SETUP drops, `kept` what outlives it. `before` is the state under Suspend.
-#[derive(Clone, Copy)]
+/// The pipe is what an accepted SETUP drops, `kept` what outlives it. `before` is the state under Suspend, `book` the bytes of the
+/// book that the device was built with.
+#[derive(Clone, Copy, Debug, PartialEq, Eq)]
 pub struct Live {
     pub pipe: Pipe,
     pub kept: Kept,
@@ -28,157 +28,95 @@ pub struct Live {
 }
 
 impl Live {
-    // At building: a book of so many bytes.
+    /// At building, with a book of so many bytes: in the default state, with no request and no halt.
     pub fn fresh(book: u32, built: bool) -> Live
         ensures { result ≡ fresh book built }
     {
-        let kept = Kept {
-            state: State::Default,
-            wakeup: false,
-            powered: false,
-            halts: 0,
-        };
         Live {
             pipe: Pipe::idle(),
-            kept,
+            kept: Kept {
+                state: State::Default,
+                wakeup: false,
+                powered: false,
+                halts: 0,
+            },
             before: State::Default,
             book,
             built,
         }
     }
-}
 
-fn source_room(source: Source, book: u32) -> u32
-    ensures { result ≡ source_room source book }
-{
-    match source {
-        Source::Buffer => BUFFER as u32,
-        Source::Book => book,
+    #[tactic(auto, unfolding(crate::specs::Live::live_fine))]
+    fn fine(&self) -> bool
+        ensures { result ≡ live_fine self.now }
+    {
+        self.built
+            && book_fine(self.book as usize)
+            && state_fine(self.kept.state, self.before)
+            && pipe_fine(&self.pipe, self.book)
+    }
+
+    /// Refusal 9 unless a device of this record may be used at all.
+    #[tactic(auto, unfolding(crate::specs::Live::unfit))]
+    pub fn check(&self, profile: &Record) -> Result<(), Refusal>
+        ensures { result ≡ unless (unfit profile.now self.now) tt }
+    {
+        if self.fine() && limits::check(profile).is_ok() {
+            Ok(())
+        } else {
+            Err(Refusal::BadState)
+        }
+    }
+
+    /// Refusal 9, 5 or 6, in this order, of a step with a book of so many bytes and a room of so many.
+    #[tactic(auto, unfolding(crate::specs::Live::unfit, crate::specs::Live::step_refusal))]
+    pub fn check_step(&self, profile: &Record, book: usize, room: usize) -> Result<(), Refusal>
+        ensures { result ≡ unless (step_refusal profile.now self.now book room) tt }
+    {
+        self.check(profile)?;
+        if book != self.book as usize {
+            return Err(Refusal::OtherBook);
+        }
+        if room < profile.plan.basics.packet as usize {
+            return Err(Refusal::PacketRoom);
+        }
+        Ok(())
     }
 }
 
-fn reply_fine(reply: Reply, book: u32) -> bool
-    ensures { result ≡ reply_fine reply book }
-{
-    if reply.len < reply.sent {
-        return false;
-    }
-    let source = reply.source;
-    reply.start as usize + reply.len as usize <= source_room(source, book) as usize
-}
-
-fn coming_fine(coming: Coming) -> bool
-    ensures { result ≡ coming_fine coming }
-{
-    if BUFFER < coming.awaited as usize {
-        return false;
-    }
-    coming.held as usize <= BUFFER
-}
-
-fn pipe_fine(pipe: Pipe, book: u32) -> bool
-    ensures { result ≡ pipe_fine pipe book }
-{
-    let coming = pipe.coming;
-    if !coming_fine(coming) {
-        return false;
-    }
-    let reply = pipe.reply;
-    if !reply_fine(reply, book) {
-        return false;
-    }
-    pipe.pending.0 <= ADDRESSES
-}
-
-// The length of a tile book: refusal 4.
+/// Whether a tile book may have so many bytes: refusal 4.
+#[tactic(auto, unfolding(crate::specs::Live::book_fine))]
 pub fn book_fine(book: usize) -> bool
     ensures { result ≡ book_fine book }
 {
-    if book % TILE as usize != 0 {
-        return false;
-    }
-    book <= BOOK as usize
+    book % TILE as usize == 0 && book <= BOOK as usize
 }
 
-// Under Suspend another state is remembered.
+// Suspend is not remembered under Suspend.
 fn state_fine(state: State, before: State) -> bool
     ensures { result ≡ state_fine state before }
 {
-    match state {
-        State::Suspend => awake(before),
-        State::Default => true,
-        State::Addressed => true,
-        State::Configured => true,
-    }
+    !matches!((state, before), (State::Suspend, State::Suspend))
 }
 
-fn awake(state: State) -> bool
-    ensures { result ≡ awake state }
+fn pipe_fine(pipe: &Pipe, book: u32) -> bool
+    ensures { result ≡ pipe_fine pipe.now book }
 {
-    match state {
-        State::Suspend => false,
-        State::Default => true,
-        State::Addressed => true,
-        State::Configured => true,
-    }
+    coming_fine(&pipe.coming) && reply_fine(&pipe.reply, book) && pipe.pending.0 <= ADDRESSES
 }
 
-fn live_fine(live: Live) -> bool
-    ensures { result ≡ live_fine live }
+fn coming_fine(coming: &Coming) -> bool
+    ensures { result ≡ coming_fine coming.now }
 {
-    if !live.built {
-        return false;
-    }
-    if !book_fine(live.book as usize) {
-        return false;
-    }
-    let kept = live.kept;
-    let state = kept.state;
-    let before = live.before;
-    if !state_fine(state, before) {
-        return false;
-    }
-    let pipe = live.pipe;
-    pipe_fine(pipe, live.book)
+    coming.awaited as usize <= BUFFER && coming.held as usize <= BUFFER
 }
 
-// Refusal 9 or none: whether a device of this record may be used at all.
-pub fn unfit<'a>(
-    plan: Plan,
-    ids: &'a [u16; LANGUAGES],
-    lens: &'a [u8; STRINGS],
-    live: Live,
-) -> Refusal
-    ensures { result ≡ refusal (unfit plan ids.now lens.now live) }
+fn reply_fine(reply: &Reply, book: u32) -> bool
+    ensures { result ≡ reply_fine reply.now book }
 {
-    if !live_fine(live) {
-        return Refusal::BadState;
-    }
-    if limits::broken(plan, ids, lens).number() != 0 {
-        return Refusal::BadState;
-    }
-    Refusal::None
-}
-
-// Refusal 9, 5, 6 or none, of a step with a book of so many bytes and a room of so many.
-pub fn step_refusal<'a>(
-    plan: Plan,
-    ids: &'a [u16; LANGUAGES],
-    lens: &'a [u8; STRINGS],
-    live: Live,
-    book: usize,
-    room: usize,
-) -> Refusal
-    ensures { result ≡ refusal (step_refusal plan ids.now lens.now live book room) }
-{
-    if unfit(plan, ids, lens, live).number() != 0 {
-        return Refusal::BadState;
-    }
-    if book != live.book as usize {
-        return Refusal::OtherBook;
-    }
-    if room < plan.basics.packet as usize {
-        return Refusal::PacketRoom;
-    }
-    Refusal::None
+    let room = match reply.source {
+        Source::Buffer => BUFFER,
+        Source::Book => book as usize,
+    };
+    reply.sent <= reply.len && reply.start as usize + reply.len as usize <= room
 }
