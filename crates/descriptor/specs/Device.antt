@@ -1,23 +1,36 @@
 -- USB 2.0 section 9.6.1: the device descriptor as the list of its bytes, in the order of its table. Document 01, module 2.
-use Rattle.std.specs.Prelude.{ℕ, zero, suc, ◌+◌, ◌/◌, ◌%◌, Bool, false, cond, not, ◌||◌, List, [], ◌∷◌, eqb, get_or}
-use Rattle.record.specs.Filling.{slot_of}
-use Rattle.plan.specs.declared.Plan.{Plan}
+use Rattle.std.specs.Prelude.{ℕ, ◌+◌, ◌/◌, ◌%◌, Bool, cond, not, List, [], ◌∷◌, eqb, take}
+use Rattle.std.specs.List.{list_any}
+use Rattle.record.specs.Filling.{text_at}
+use Rattle.record.specs.declared.Record.{Record}
+use Rattle.record.specs.declared.Language.{Language}
 
--- whether any of the first n languages has the string of a name
-unfoldable pub said : List ℕ → ℕ → ℕ → Bool
-said lens name zero = false
-said lens name (suc n) = not (eqb (get_or lens (slot_of n name) 0) 0) || said lens name n
+-- a word of two bytes, the low one first
+abbrev pub word_bytes : ℕ → List ℕ
+word_bytes n = n % 256 ∷ n / 256 ∷ []
+
+-- the languages that a record counts
+abbrev pub spoken : Record → List Language
+spoken r = take r.plan.languages r.languages
+
+-- whether a language has the string of a name
+abbrev pub has : ℕ → Language → Bool
+has name l = not (eqb (text_at name l).len 0)
+
+-- whether any of the languages has the string of a name
+abbrev pub said : List Language → ℕ → Bool
+said ls name = list_any (has name) ls
 
 -- the number of a string: 1, 2 or 3 if any language has it, else 0
-unfoldable pub string_number : List ℕ → ℕ → ℕ → ℕ
-string_number lens name n = cond (said lens name n) (name + 1) 0
+abbrev pub string_number : List Language → ℕ → ℕ
+string_number ls name = cond (said ls name) (name + 1) 0
 
 -- table 9-8: bLength, bDescriptorType, bcdUSB, bDeviceClass, bDeviceSubClass, bDeviceProtocol, bMaxPacketSize0, idVendor,
 -- idProduct, bcdDevice, iManufacturer, iProduct, iSerialNumber, bNumConfigurations
-unfoldable pub device_bytes : Plan → List ℕ → List ℕ
-device_bytes p lens =
-    let b = p.basics in
-    let n = p.languages in
+unfoldable pub device_bytes : Record → List ℕ
+device_bytes r =
+    let b = r.plan.basics in
+    let ls = spoken r in
     18 ∷ 1
     ∷ 0 ∷ 2
     ∷ b.class ∷ b.subclass ∷ b.protocol
@@ -25,5 +38,5 @@ device_bytes p lens =
     ∷ b.vendor % 256 ∷ b.vendor / 256
     ∷ b.product % 256 ∷ b.product / 256
     ∷ b.release % 256 ∷ b.release / 256
-    ∷ string_number lens 0 n ∷ string_number lens 1 n ∷ string_number lens 2 n
+    ∷ string_number ls 0 ∷ string_number ls 1 ∷ string_number ls 2
     ∷ 1 ∷ []

@@ -1,110 +1,108 @@
-// Writing a descriptor into a lent buffer at a position, and the device descriptor.
-// A record that breaks a limit is refused with 1, 2 or 3, and an answer that the room left does not take whole with 12:
-// then no byte is written. The record is lent in its parts, as a device holds it: r.plan, &r.ids, &r.lens, &r.units.
+//! Writing a descriptor into a lent buffer at a position, and the device descriptor.
+//! A record that breaks a limit is refused with 1, 2 or 3, and an answer that the room left does not take whole with 12:
+//! then no byte is written.
 #![tactic(auto)]
 
-ghost use Rattle.std.specs.Prelude.{◌≡◌, ◌*◌, ◌≤◌, ◌<◌, length};
-ghost use Rattle.std.proofs.Math.Option.{some};
-ghost use Rattle.record.specs.Sizes.{names, language_room};
+ghost use Rattle.std.specs.Prelude.{◌≡◌, take, length, Some};
+ghost use Rattle.record.specs.Filling.{name_of};
 ghost use Rattle.limits.specs.Limits.{lowest};
-ghost use Rattle.descriptor.specs.Device.{said, string_number, device_bytes};
+ghost use Rattle.descriptor.specs.Device.{word_bytes, has, said, string_number, device_bytes};
 ghost use Rattle.descriptor.specs.Writing.{Put, Wrote};
 
 use common::Refusal;
-use plan::Plan;
-use record::{LANGUAGES, NAMES, STRINGS};
+use record::{Language, Name, Record};
 
-// How a call ends: so many bytes were written, there is no such string, or it was refused.
-#[derive(Clone, Copy)]
-pub enum Written {
-    Bytes(usize),
-    Missing,
-    Refused(Refusal),
-}
+/// How a call ends: so many bytes were written, there is no such string, or it was refused.
+pub type Written = Result<Option<usize>, Refusal>;
+
+/// The bytes of a device descriptor.
+pub const DEVICE: usize = 18;
 
 // A whole answer, or refusal 12 and nothing.
 fn put_whole(src: &[u8], buf: &mut [u8], at: usize) -> Written
-    ensures { Put result buf.new (some src.now) buf.old at }
+    ensures { Put result buf.new (Some src.now) buf.old at }
 {
     let n = src.len();
     if !common::within(buf.len(), at, n) {
-        return Written::Refused(Refusal::AnswerRoom);
+        return Err(Refusal::AnswerRoom);
     }
     common::put(src, 0, n, buf, at);
-    Written::Bytes(n)
+    Ok(Some(n))
 }
 
-// The device descriptor.
-pub fn device<'a>(
-    plan: Plan,
-    ids: &'a [u16; LANGUAGES],
-    lens: &'a [u8; STRINGS],
-    buf: &mut [u8],
-    at: usize,
-) -> Written
-    ensures { Wrote result buf.new (lowest plan ids.now lens.now) (some (device_bytes plan lens.now)) buf.old at }
+/// The entries of a list that its count tells; all where it tells more.
+pub fn counted<T, const N: usize>(list: &[T; N], count: u8) -> &[T]
+    ensures part { result.now ≡ take count list.now }
+    ensures long { length list.now ≡ N }
 {
-    let why = limits::broken(plan, ids, lens);
-    if why.number() != 0 {
-        return Written::Refused(why);
-    }
-    put_device(plan, lens, buf, at)
+    &list[..(count as usize).min(N)]
 }
 
-fn put_device(plan: Plan, lens: &[u8; STRINGS], buf: &mut [u8], at: usize) -> Written
-    requires { plan.languages ≤ language_room }
-    ensures { Put result buf.new (some (device_bytes plan lens.now)) buf.old at }
+/// A word of two bytes, the low one first.
+pub fn word_bytes(word: u16) -> [u8; 2]
+    ensures { result ≡ word_bytes word }
 {
-    let b = plan.basics;
-    let n = plan.languages as usize;
-    let first = string_number(lens, 0, n);
-    let second = string_number(lens, 1, n);
-    let third = string_number(lens, 2, n);
-    let d = [
-        18,
+    word.to_le_bytes()
+}
+
+/// The device descriptor (USB 2.0 section 9.6.1) at place `at` of a lent buffer.
+pub fn device(profile: &Record, buf: &mut [u8], at: usize) -> Written
+    ensures { Wrote result buf.new (lowest profile.now) (Some (device_bytes profile.now)) buf.old at }
+{
+    limits::check(profile)?;
+    put_whole(&device_bytes(profile), buf, at)
+}
+
+// Table 9-8, in its order.
+fn device_bytes(profile: &Record) -> [u8; DEVICE]
+    ensures { result ≡ device_bytes profile.now }
+{
+    let basics = &profile.plan.basics;
+    let spoken = counted(&profile.languages, profile.plan.languages);
+    let [vendor, vendor_high] = word_bytes(basics.vendor);
+    let [product, product_high] = word_bytes(basics.product);
+    let [release, release_high] = word_bytes(basics.release);
+    [
+        DEVICE as u8,
         1,
         0,
         2,
-        b.class,
-        b.subclass,
-        b.protocol,
-        b.packet,
-        (b.vendor % 256) as u8,
-        (b.vendor / 256) as u8,
-        (b.product % 256) as u8,
-        (b.product / 256) as u8,
-        (b.release % 256) as u8,
-        (b.release / 256) as u8,
-        first,
-        second,
-        third,
+        basics.class,
+        basics.subclass,
+        basics.protocol,
+        basics.packet,
+        vendor,
+        vendor_high,
+        product,
+        product_high,
+        release,
+        release_high,
+        string_number(spoken, Name::Manufacturer),
+        string_number(spoken, Name::Product),
+        string_number(spoken, Name::Serial),
         1,
-    ];
-    put_whole(&d, buf, at)
+    ]
 }
 
-// The number of a string, if any of the first n languages has it, else 0.
-fn string_number(lens: &[u8; STRINGS], name: u8, n: usize) -> u8
-    requires { (name < names) × (n ≤ language_room) }
-    ensures { result ≡ string_number lens.now name n }
+// The number of a string, 1 to 3, if any of the languages has it, else 0.
+fn string_number(spoken: &[Language], name: Name) -> u8
+    ensures { result ≡ string_number spoken.now (name_of name) }
 {
-    if any_said(lens, name as usize, n) {
-        name + 1
+    if said(spoken, name) {
+        name as u8 + 1
     } else {
         0
     }
 }
 
-fn any_said(lens: &[u8], name: usize, n: usize) -> bool
-    requires { (name < names) × (names * n ≤ length lens.now) }
-    ensures { result ≡ said lens.now name n }
+fn said(spoken: &[Language], name: Name) -> bool
+    ensures { result ≡ said spoken.now (name_of name) }
 {
-    let mut i = n;
-    while 0 < i {
-        i -= 1;
-        if lens[NAMES * i + name] != 0 {
-            return true;
-        }
-    }
-    false
+    spoken.iter().any(|l| has(l, name))
+}
+
+fn has(language: &Language, name: Name) -> bool
+    ensures { result ≡ has (name_of name) language.now }
+{
+    language.names[name as usize].len != 0
 }
