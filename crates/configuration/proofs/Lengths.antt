@@ -15,13 +15,13 @@ use Rattle.plan.specs.declared.Endpoint.{Endpoint}
 use Rattle.plan.specs.declared.Interface.{Interface}
 use Rattle.plan.specs.declared.Plan.{Plan}
 use Rattle.plan.specs.declared.Kind.TheVariants.{Bulk, Interrupt}
-use Rattle.limits.specs.Limits.{address_of, endpoint_fine, list_fine, layout_fine}
+use Rattle.limits.specs.Limits.{address_of, endpoint_fine, layout_fine}
 use Rattle.limits.proofs.Good.{layout-facts}
-use Rattle.configuration.specs.Configuration.{endpoint_bytes, interface_bytes, owned, joined, interface_set, interface_sets, head_bytes, body_bytes, configuration_bytes}
+use Rattle.configuration.specs.Configuration.{owned, joined, interface_set, interface_sets, body_bytes, configuration_bytes}
 use Rattle.configuration.proofs.Laws.{owned-here, owned-other, owned-nil, owned-count, length-set}
 
 length-joined : (es : List Endpoint) → length (joined es) ≡ 7 * length es
-unfolding joined endpoint_bytes
+unfolding joined
 length-joined [] = refl
 length-joined (e ∷ es) = omega (arith, length-joined es)
 
@@ -73,7 +73,6 @@ module _ (e : Endpoint) where
           omega (arith, o, more m)
 
 interface-fine : (n : ℕ) (e : Endpoint) → endpoint_fine n e ≡ true → e.interface < n
-unfolding endpoint_fine
 interface-fine n e t =
     ltb-true e.interface n
     (and_left (ltb e.interface n) (between 1 15 (address_of e % 128)) (and_left (ltb e.interface n && between 1 15 (address_of e % 128)) (between 1 64 e.size) t))
@@ -93,20 +92,26 @@ pub record Shaped (p : Plan) : Type 0 where
   pub endpoints : length p.endpoints.list ≡ endpoint_room
 
 module _ (p : Plan) (s : Shaped p) (fine : layout_fine p ≡ true) where
+  -- the parts that are counted are as long as the counts say
+  pub length-parts : (length (take p.interfaces.count p.interfaces.list) ≡ p.interfaces.count) × (length (take p.endpoints.count p.endpoints.list) ≡ p.endpoints.count)
+  length-parts =
+      let f = layout-facts p fine in
+      (length-take-le p.interfaces.count p.interfaces.list (omega (arith, s.interfaces, f.interfaces)), length-take-le p.endpoints.count p.endpoints.list (omega (arith, s.endpoints, f.endpoints)))
+
   pub length-body : length (body_bytes p) ≡ 9 * p.interfaces.count + 7 * p.endpoints.count
-  unfolding body_bytes list_fine
+  unfolding body_bytes
   length-body =
       let f = layout-facts p fine in
       let es = take p.endpoints.count p.endpoints.list in
       let xs = take p.interfaces.count p.interfaces.list in
-      let n : length xs ≡ p.interfaces.count = length-take-le p.interfaces.count p.interfaces.list (omega (arith, s.interfaces, f.interfaces)) in
-      let m : length es ≡ p.endpoints.count = length-take-le p.endpoints.count p.endpoints.list (omega (arith, s.endpoints, f.endpoints)) in
+      let n = length-parts.0 in
+      let m = length-parts.1 in
       let t : every (endpoint_fine (length xs)) es ≡ true = rw n (and_left (every (endpoint_fine p.interfaces.count) es) (none_twice (map address_of es)) f.list) in
       omega (arith, length-sets es 0 xs, all-owned es xs t, n, m)
 
   -- document 01, module 2: 9 bytes, 9 for each interface and 7 for each endpoint
   pub length-configuration : length (configuration_bytes p) ≡ 9 + 9 * p.interfaces.count + 7 * p.endpoints.count
-  unfolding configuration_bytes head_bytes
+  unfolding configuration_bytes
   length-configuration = omega (arith, length-body)
 
 -- .. so that the longest is 9 + 36 + 56 = 101 bytes; whatever the lengths of its lists
@@ -129,7 +134,7 @@ few-owners [] i xs = omega (arith, no-owners i xs)
 few-owners (e ∷ es) i xs = omega (arith, owners-cons e es i xs, owned-once e i xs, few-owners es i xs)
 
 pub longest-configuration : (p : Plan) → layout_fine p ≡ true → length (configuration_bytes p) ≤ 101
-unfolding configuration_bytes head_bytes body_bytes
+unfolding configuration_bytes body_bytes
 longest-configuration p fine =
     let f = layout-facts p fine in
     let es = take p.endpoints.count p.endpoints.list in
@@ -156,9 +161,9 @@ full =
     }
 
 pub full-fine : layout_fine full ≡ true
-unfolding full layout_fine list_fine endpoint_fine every none_twice member
+unfolding full every none_twice member
 full-fine = refl
 
 pub full-length : length (configuration_bytes full) ≡ 101
-unfolding full configuration_bytes head_bytes body_bytes interface_sets interface_set interface_bytes owned joined endpoint_bytes
+unfolding full configuration_bytes body_bytes interface_sets interface_set owned joined
 full-length = refl

@@ -14,12 +14,12 @@ transfer_of Bulk = 2
 transfer_of Interrupt = 3
 
 -- table 9-13: bLength, bDescriptorType, bEndpointAddress, bmAttributes, wMaxPacketSize, bInterval
-unfoldable pub endpoint_bytes : Endpoint → List ℕ
+abbrev pub endpoint_bytes : Endpoint → List ℕ
 endpoint_bytes e = 7 ∷ 5 ∷ address_of e ∷ transfer_of e.kind ∷ e.size ∷ 0 ∷ e.interval ∷ []
 
 -- table 9-12: bLength, bDescriptorType, bInterfaceNumber, bAlternateSetting, bNumEndpoints, bInterfaceClass,
 -- bInterfaceSubClass, bInterfaceProtocol, iInterface
-unfoldable pub interface_bytes : ℕ → ℕ → Interface → List ℕ
+abbrev pub interface_bytes : ℕ → ℕ → Interface → List ℕ
 interface_bytes number endpoints x = 9 ∷ 4 ∷ number ∷ 0 ∷ endpoints ∷ x.class ∷ x.subclass ∷ x.protocol ∷ 0 ∷ []
 
 -- the endpoints of an interface, in record order
@@ -45,7 +45,7 @@ abbrev pub bit : Bool → ℕ → ℕ
 bit b n = cond b n 0
 
 -- table 9-10: bLength, bDescriptorType, wTotalLength, bNumInterfaces, bConfigurationValue, iConfiguration, bmAttributes, bMaxPower
-unfoldable pub head_bytes : Plan → ℕ → List ℕ
+abbrev pub head_bytes : Plan → ℕ → List ℕ
 head_bytes p total =
     9 ∷ 2
     ∷ total % 256 ∷ total / 256

@@ -1,22 +1,23 @@
-use mathlib.Core.Path.{◌≡◌}
+use mathlib.Core.Path.{◌≡◌, sym, ◌∙◌}
+use Rattle.std.proofs.Common.{rules, Err}
+use borrow.Author.Tests.{eqb-true}
+use Rattle.common.proofs.Refusals.{passed}
 use Rattle.limits.specs.Limits.{lowest}
-use Rattle.limits.proofs.Good.{good, told_none, told-some}
+use Rattle.limits.proofs.Good.{good}
 use Rattle.descriptor.proofs.Laws.{wrote-refused, wrote-put}
 use Rattle.configuration.proofs.write.Goals as goal
 
-pub returns-then-number-ne0 : goal.returns-then-number-ne0
-returns-then-number-ne0 c =
-    let a = c.args in
-    wrote-refused (told-some a.plan a.ids.now a.lens.now c.broken-why.ensures c.number.ensures c.if-number-ne0.true) c.broken-why.ensures
-
 pub put_configuration-requires : goal.put_configuration-requires
 put_configuration-requires c =
-    let a = c.args in
-    let z : lowest a.plan a.ids.now a.lens.now ≡ 0 = told_none a.plan a.ids.now a.lens.now c.broken-why.ensures c.number.ensures c.if-number-ne0.false in
-    (good a.plan a.ids.now a.lens.now z).layout
+    let r = c.args.profile.now in
+    let z = passed (lowest r) (tt {0}) (tt {0}) (sym c.in_ok-check.was ∙ c.check.ensures) in
+    (good r (eqb-true (lowest r) 0 z)).layout
+
+pub returns-in_err-check : goal.returns-in_err-check
+returns-in_err-check c =
+    let why = c.in_err-check.field-0.0 in
+    let r : c.from_residual.result ≡ Err why = search rules in
+    rw r (wrote-refused (sym c.in_err-check.was ∙ c.check.ensures))
 
 pub returns : goal.returns
-returns c =
-    let a = c.args in
-    let z : lowest a.plan a.ids.now a.lens.now ≡ 0 = told_none a.plan a.ids.now a.lens.now c.broken-why.ensures c.number.ensures c.if-number-ne0.false in
-    wrote-put z c.put_configuration.ensures
+returns c = wrote-put (sym c.in_ok-check.was ∙ c.check.ensures) c.put_configuration.ensures
