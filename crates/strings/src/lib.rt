@@ -1,163 +1,105 @@
-// The language list and the strings, written into a lent buffer at a position.
+//! The language list and the strings, written into a lent buffer at a position.
 #![tactic(auto)]
 
-ghost use Rattle.std.specs.Prelude.{◌≡◌, true, [], ◌∷◌, ◌+◌, ◌*◌, ◌≤◌, ◌<◌, length, get_or, take};
-ghost use Rattle.std.proofs.Math.Option.{some, map};
-ghost use Rattle.common.specs.Bytes.{part, placed};
-ghost use Rattle.common.specs.Lists.{every};
-ghost use Rattle.record.specs.Sizes.{names, language_room, string_room, unit_room};
-ghost use Rattle.limits.specs.Limits.{length_fine, languages_fine, lowest};
+ghost use Rattle.std.specs.Prelude.{◌≡◌, ℕ, ◌+◌, ◌*◌, ◌≤◌, map, length, Some, option_map, option_copied};
+ghost use Rattle.common.specs.Bytes.{placed};
+ghost use Rattle.record.specs.Sizes.{unit_room};
+ghost use Rattle.limits.specs.Limits.{lowest};
 ghost use Rattle.descriptor.specs.Writing.{Put, Wrote};
-ghost use Rattle.strings.specs.Strings.{unit_bytes, text_bytes, language_at, slot_text, name_at, string_of};
-ghost use Rattle.strings.specs.Finding.{found_of};
+ghost use Rattle.strings.specs.Strings.{unit_bytes, text_bytes, language_of, text_of, string_of};
 
 use common::Refusal;
-use descriptor::Written;
-use plan::Plan;
-use record::{LANGUAGES, NAMES, STRINGS, TEXT, UNITS};
+use descriptor::{Written, counted, word_bytes};
+use record::{Language, NAMES, Record, Text};
 
-#[derive(Clone, Copy)]
-enum Found {
-    At(usize),
-    Nowhere,
+// What stands in a text as a word of two bytes.
+trait Word {
+    ghost word: { Self → ℕ };
+
+    fn word(&self) -> u16
+        ensures { result ≡ word self.now };
 }
 
-// A string descriptor: number 0 lists the languages, 1 to 3 are a language's names.
-pub fn write<'a>(
-    plan: Plan,
-    ids: &'a [u16; LANGUAGES],
-    lens: &'a [u8; STRINGS],
-    units: &'a [u16; TEXT],
-    number: u8,
-    language: u16,
-    buf: &mut [u8],
-    at: usize,
-) -> Written
-    ensures { Wrote result buf.new (lowest plan ids.now lens.now) (string_of plan.languages ids.now lens.now units.now number language) buf.old at }
-{
-    let why = limits::broken(plan, ids, lens);
-    if why.number() != 0 {
-        return Written::Refused(why);
+// A UTF-16 unit.
+impl Word for u16 {
+    ghost word = { λ u. u };
+
+    fn word(&self) -> u16 {
+        *self
     }
-    put_string(
-        plan.languages as usize,
-        ids,
-        lens,
-        units,
-        number,
-        language,
-        buf,
-        at,
-    )
 }
 
-// The same, of n languages that break no limit.
-fn put_string<'a>(
-    n: usize,
-    ids: &'a [u16; LANGUAGES],
-    lens: &'a [u8; STRINGS],
-    units: &'a [u16; TEXT],
-    number: u8,
-    language: u16,
-    buf: &mut [u8],
-    at: usize,
-) -> Written
-    requires { languages_fine n ids.now lens.now ≡ true }
-    ensures { Put result buf.new (string_of n ids.now lens.now units.now number language) buf.old at }
+// A language, by its identifier.
+impl Word for Language {
+    ghost use Rattle.limits.specs.Limits.{id_of};
+
+    ghost word = { id_of };
+
+    fn word(&self) -> u16 {
+        self.id
+    }
+}
+
+/// A string descriptor (USB 2.0 section 9.6.7) at place `at` of a lent buffer: number 0 lists the languages, 1 to 3 are a
+/// language's names.
+pub fn write(profile: &Record, number: u8, language: u16, buf: &mut [u8], at: usize) -> Written
+    ensures { Wrote result buf.new (lowest profile.now) (string_of profile.now number language) buf.old at }
 {
+    limits::check(profile)?;
+    put_string(profile, number, language, buf, at)
+}
+
+fn put_string(profile: &Record, number: u8, language: u16, buf: &mut [u8], at: usize) -> Written
+    ensures { Put result buf.new (string_of profile.now number language) buf.old at }
+{
+    let spoken = counted(&profile.languages, profile.plan.languages);
     if number == 0 {
-        return put_text(ids, 0, n, buf, at);
+        return put_text(spoken, buf, at);
     }
     if NAMES < number as usize {
-        return Written::Missing;
+        return Ok(None);
     }
-    put_name(n, ids, lens, units, number as usize - 1, language, buf, at)
-}
-
-// The name of a language, if there is one.
-fn put_name<'a>(
-    n: usize,
-    ids: &'a [u16; LANGUAGES],
-    lens: &'a [u8; STRINGS],
-    units: &'a [u16; TEXT],
-    name: usize,
-    language: u16,
-    buf: &mut [u8],
-    at: usize,
-) -> Written
-    requires { (n ≤ language_room) × (name < names) × (every length_fine (take (names * n) lens.now) ≡ true) }
-    ensures { Put result buf.new (map text_bytes (name_at lens.now units.now name (language_at ids.now language n))) buf.old at }
-{
-    let found = find(ids, language, n);
-    match found {
-        Found::Nowhere => Written::Missing,
-        Found::At(i) => put_slot(lens, units, NAMES * i + name, buf, at),
+    match find(spoken, language) {
+        Some(l) => put_name(&l.names[number as usize - 1], buf, at),
+        None => Ok(None),
     }
 }
 
-// The place of a language among the first n.
-fn find(ids: &[u16], id: u16, n: usize) -> Found
-    requires { n ≤ length ids.now }
-    ensures { result ≡ found_of (language_at ids.now id n) }
+// The last language of an identifier; a good record has no other.
+fn find(spoken: &[Language], id: u16) -> Option<&Language>
+    ensures { option_copied result ≡ language_of id spoken.now }
 {
-    let mut i = n;
-    while 0 < i {
-        i -= 1;
-        if ids[i] == id {
-            return Found::At(i);
-        }
-    }
-    Found::Nowhere
+    spoken.iter().rev().find(|l| l.id == id)
 }
 
-// The string at a place, if there is one.
-fn put_slot<'a>(
-    lens: &'a [u8; STRINGS],
-    units: &'a [u16; TEXT],
-    slot: usize,
-    buf: &mut [u8],
-    at: usize,
-) -> Written
-    requires { (slot < string_room) × (length_fine (get_or lens.now slot 0) ≡ true) }
-    ensures { Put result buf.new (map text_bytes (slot_text lens.now units.now slot)) buf.old at }
+fn put_name(text: &Text, buf: &mut [u8], at: usize) -> Written
+    ensures { Put result buf.new (option_map text_bytes (text_of text.now)) buf.old at }
 {
-    let len = lens[slot] as usize;
-    if len == 0 {
-        return Written::Missing;
+    if text.len == 0 {
+        return Ok(None);
     }
-    put_text(units, UNITS * slot, len - 1, buf, at)
+    put_text(counted(&text.units, text.len - 1), buf, at)
 }
 
-// The n units of src from `from` on as a descriptor.
-fn put_text(src: &[u16], from: usize, n: usize, buf: &mut [u8], at: usize) -> Written
-    requires { (from + n ≤ length src.now) × (n ≤ unit_room) }
-    ensures { Put result buf.new (some (text_bytes (part from n src.now))) buf.old at }
+// Words as a descriptor.
+fn put_text<T: Word>(words: &[T], buf: &mut [u8], at: usize) -> Written
+    requires { length words.now ≤ unit_room }
+    ensures { Put result buf.new (Some (text_bytes (map T.Word.word words.now))) buf.old at }
 {
-    let total = 2 + 2 * n;
+    let total = 2 + 2 * words.len();
     if !common::within(buf.len(), at, total) {
-        return Written::Refused(Refusal::AnswerRoom);
+        return Err(Refusal::AnswerRoom);
     }
-    put_two(total as u8, 3, buf, at);
-    put_units(src, from, n, buf, at + 2);
-    Written::Bytes(total)
+    common::put(&[total as u8, 3], 0, 2, buf, at);
+    put_words(words, buf, at + 2);
+    Ok(Some(total))
 }
 
-fn put_units(src: &[u16], from: usize, n: usize, buf: &mut [u8], at: usize)
-    requires { (from + n ≤ length src.now) × (at + 2 * n ≤ length buf.old) }
-    ensures { buf.new ≡ placed buf.old at (unit_bytes (part from n src.now)) }
+fn put_words<T: Word>(words: &[T], buf: &mut [u8], at: usize)
+    requires { at + 2 * length words.now ≤ length buf.old }
+    ensures { buf.new ≡ placed buf.old at (unit_bytes (map T.Word.word words.now)) }
 {
-    let mut i: usize = 0;
-    while i < n {
-        let u = src[from + i];
-        put_two((u % 256) as u8, (u / 256) as u8, buf, at + 2 * i);
-        i += 1;
+    for (i, word) in words.iter().enumerate() {
+        common::put(&word_bytes(word.word()), 0, 2, buf, at + 2 * i);
     }
-}
-
-fn put_two(a: u8, b: u8, buf: &mut [u8], at: usize)
-    requires { at + 2 ≤ length buf.old }
-    ensures { buf.new ≡ placed buf.old at (a ∷ b ∷ []) }
-{
-    let d = [a, b];
-    common::put(&d, 0, 2, buf, at);
 }
