@@ -142,14 +142,21 @@ pub struct Heard {
 }
 
 impl Heard {
+    // This is told, and no request is complete.
+    fn incomplete(told: Told) -> Heard
+        ensures { result ≡ record { told = told; complete = false } }
+    {
+        Heard {
+            told,
+            complete: false,
+        }
+    }
+
     /// Nothing is told, and no request is complete.
     pub fn nothing() -> Heard
         ensures { result ≡ record { told = Nothing; complete = false } }
     {
-        Heard {
-            told: Told::Nothing,
-            complete: false,
-        }
+        Heard::incomplete(Told::Nothing)
     }
 }
 
@@ -230,10 +237,7 @@ impl Pipe {
             (Direction::Out, _) => {
                 *self = Pipe::fresh(Stage::Error, request, 0);
                 self.stall();
-                return Heard {
-                    told: Told::UnstallsStalls,
-                    complete: false,
-                };
+                return Heard::incomplete(Told::UnstallsStalls);
             }
         };
         *self = Pipe::fresh(stage, request, awaited);
@@ -288,10 +292,7 @@ impl Pipe {
         ensures heard { result ≡ record { told = Stalls; complete = false } }
         ensures pipe { self.new ≡ (stalled self.old []).pipe }
     {
-        Heard {
-            told: self.stall(),
-            complete: false,
-        }
+        Heard::incomplete(self.stall())
     }
 
     /// An OUT packet of endpoint 0 (USB 2.0 sections 8.5.3 and 8.5.3.1): data in the OUT data stage, the host's status in an IN
