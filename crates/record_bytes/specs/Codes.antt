@@ -32,3 +32,8 @@ joined f (x ∷ xs) = f x ++ joined f xs
 unfoldable pub entries : {A : Type 0} → ℕ → ℕ → (List ℕ → A) → List ℕ → List A
 entries zero k f s = []
 entries (suc n) k f s = f (take k s) ∷ entries n k f (drop k s)
+
+-- the n values of f from a number on
+unfoldable pub numbered : {A : Type 0} → ℕ → ℕ → (ℕ → A) → List A
+numbered zero i f = []
+numbered (suc n) i f = f i ∷ numbered n (i + 1) f

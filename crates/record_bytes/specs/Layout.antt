@@ -6,7 +6,7 @@
 --   69  4 languages (2)
 --   77  12 lengths of strings, three for each language: 0 for no string, else its units and one
 --   89  12 times 31 units (2)
-use Rattle.std.specs.Prelude.{ℕ, ◌+◌, ◌*◌, Bool, cond, ◌&&◌, List, [], ◌∷◌, ◌++◌, eqb, get_or}
+use Rattle.std.specs.Prelude.{ℕ, ◌+◌, ◌*◌, Bool, ◌&&◌, List, [], ◌∷◌, ◌++◌, get_or}
 use Rattle.common.specs.Bytes.{part}
 use Rattle.common.specs.Lists.{every}
 use Rattle.control.specs.Setup.{word_at}
@@ -14,12 +14,13 @@ use Rattle.plan.specs.Sizes.{interface_room, endpoint_room}
 use Rattle.plan.specs.declared.Basics.{Basics}
 use Rattle.plan.specs.declared.Interface.{Interface}
 use Rattle.plan.specs.declared.Endpoint.{Endpoint}
-use Rattle.plan.specs.declared.Kind.{Kind}
-use Rattle.plan.specs.declared.Kind.TheVariants.{Bulk, Interrupt}
 use Rattle.plan.specs.declared.Plan.{Plan}
-use Rattle.record.specs.Sizes.{language_room, string_room, text_room}
+use Rattle.plan.specs.Codes.{kind_code, kind_of}
+use Rattle.record.specs.Sizes.{language_room, names, unit_room, string_room, text_room}
+use Rattle.record.specs.declared.Text.{Text}
+use Rattle.record.specs.declared.Language.{Language}
 use Rattle.record.specs.declared.Record.{Record}
-use Rattle.record_bytes.specs.Codes.{word_bytes, flag_code, flag_at, coded, joined, entries}
+use Rattle.record_bytes.specs.Codes.{word_bytes, flag_code, flag_at, coded, joined, entries, numbered}
 
 -- the sizes, each named once
 abbrev pub head_size : ℕ
@@ -33,6 +34,10 @@ endpoint_size = 5
 
 abbrev pub word_size : ℕ
 word_size = 2
+
+-- the units of a string
+abbrev pub text_size : ℕ
+text_size = word_size * unit_room
 
 -- where each list starts
 abbrev pub endpoint_place : ℕ
@@ -51,10 +56,6 @@ abbrev pub record_size : ℕ
 record_size = unit_place + word_size * text_room
 
 -- ---- writing
-
-abbrev pub kind_code : Kind → ℕ
-kind_code Bulk = 0
-kind_code Interrupt = 1
 
 abbrev pub interface_bytes : Interface → List ℕ
 interface_bytes i = i.class ∷ i.subclass ∷ i.protocol ∷ []
@@ -84,16 +85,29 @@ head_bytes p =
 unfoldable pub plan_bytes : Plan → List ℕ
 plan_bytes p = head_bytes p ++ (joined interface_bytes p.interfaces.list ++ joined endpoint_bytes p.endpoints.list)
 
-unfoldable pub strings_bytes : List ℕ → List ℕ → List ℕ → List ℕ
-strings_bytes ids lens units = joined word_bytes ids ++ (lens ++ joined word_bytes units)
+-- of a language: its identifier, the lengths of its strings, their units
+abbrev pub id_bytes : Language → List ℕ
+id_bytes l = word_bytes l.id
+
+abbrev pub length_bytes : Text → List ℕ
+length_bytes t = t.len ∷ []
+
+abbrev pub lengths_bytes : Language → List ℕ
+lengths_bytes l = joined length_bytes l.names
+
+abbrev pub text_bytes : Text → List ℕ
+text_bytes t = joined word_bytes t.units
+
+abbrev pub texts_bytes : Language → List ℕ
+texts_bytes l = joined text_bytes l.names
+
+unfoldable pub strings_bytes : List Language → List ℕ
+strings_bytes ls = joined id_bytes ls ++ (joined lengths_bytes ls ++ joined texts_bytes ls)
 
 unfoldable pub record_bytes : Record → List ℕ
-record_bytes r = plan_bytes r.plan ++ strings_bytes r.ids r.lens r.units
+record_bytes r = plan_bytes r.plan ++ strings_bytes r.languages
 
 -- ---- reading
-
-unfoldable pub kind_of : ℕ → Kind
-kind_of n = cond (eqb n 0) Bulk Interrupt
 
 abbrev pub interface_of : List ℕ → Interface
 interface_of s = record { class = get_or s 0 0; subclass = get_or s 1 0; protocol = get_or s 2 0 }
@@ -129,14 +143,18 @@ plan_of s =
       languages = get_or s 16 0;
     }
 
+-- the string at a place among all of them, and the language at a place
+abbrev pub text_of : ℕ → List ℕ → Text
+text_of slot s = record { len = get_or s (length_place + slot) 0; units = entries unit_room word_size word_of (part (unit_place + text_size * slot) text_size s) }
+
+abbrev pub texts_of : ℕ → List ℕ → List Text
+texts_of i s = numbered names 0 (λ k. text_of (names * i + k) s)
+
+abbrev pub language_of : ℕ → List ℕ → Language
+language_of i s = record { id = word_at s (language_place + word_size * i); names = texts_of i s }
+
 unfoldable pub record_of : List ℕ → Record
-record_of s =
-    record {
-      plan = plan_of s;
-      ids = entries language_room word_size word_of (part language_place (word_size * language_room) s);
-      lens = part length_place string_room s;
-      units = entries text_room word_size word_of (part unit_place (word_size * text_room) s);
-    }
+record_of s = record { plan = plan_of s; languages = numbered language_room 0 (λ i. language_of i s) }
 
 -- ---- which bytes are a record's: the three flags and the kinds of endpoints are codes
 

@@ -1,17 +1,18 @@
-// The device record as bytes. specs/Layout.antt has the layout, field by field.
+//! The device record as bytes. specs/Layout.antt has the layout, field by field.
 #![tactic(auto)]
 
-ghost use Rattle.std.specs.Prelude.{◌≡◌, ◌+◌, ◌*◌, ◌≤◌, length};
+ghost use Rattle.std.specs.Prelude.{◌≡◌, ℕ, ◌+◌, ◌*◌, ◌≤◌, ◌<◌, List, length};
 ghost use Rattle.common.specs.Bytes.{placed};
 ghost use Rattle.common.specs.Lists.{every};
-ghost use Rattle.plan.specs.Sizes.{interface_room, endpoint_room};
+ghost use Rattle.plan.specs.Sizes.{endpoint_room};
+ghost use Rattle.record.specs.Sizes.{names, language_room, string_room, text_room};
 ghost use Rattle.record_bytes.specs.Codes.{word_bytes, joined, entries};
-ghost use Rattle.record_bytes.specs.Shape.{Planned};
-ghost use Rattle.record_bytes.specs.Layout.{head_size, interface_size, endpoint_size, word_size, record_size, kind_code, interface_bytes, endpoint_bytes, head_bytes, plan_bytes, strings_bytes, record_bytes, language_place, kind_of, interface_of, endpoint_of, word_of, basics_of, plan_of, record_of, endpoint_coded, same, record_coded};
+ghost use Rattle.record_bytes.specs.Layout.{endpoint_size, word_size, text_size, language_place, length_place, unit_place, record_size, head_bytes, plan_bytes, id_bytes, length_bytes, lengths_bytes, text_bytes, texts_bytes, record_bytes, basics_of, plan_of, text_of, texts_of, language_of, record_of, endpoint_coded, same, record_coded};
 
+use common::Coded;
 use control::EndpointAddress;
 use plan::{Basics, ENDPOINTS, Endpoint, Endpoints, INTERFACES, Interface, Interfaces, Kind, Plan};
-use record::{LANGUAGES, Record, STRINGS, TEXT};
+use record::{LANGUAGES, Language, NAMES, Record, STRINGS, TEXT, Text, UNITS};
 
 // The sizes, each named once: of the head, of an entry of each list, of the whole.
 const HEAD: usize = 17;
@@ -22,6 +23,9 @@ const ENDPOINT: usize = 5;
 
 const WORD: usize = 2;
 
+const UNIT_BYTES: usize = WORD * UNITS;
+
+/// How many bytes a record takes.
 pub const RECORD: usize = UNIT_PLACE + WORD * TEXT;
 
 // Where each list starts.
@@ -33,96 +37,130 @@ const LENGTH_PLACE: usize = LANGUAGE_PLACE + WORD * LANGUAGES;
 
 const UNIT_PLACE: usize = LENGTH_PLACE + STRINGS;
 
+// A value that stands in N bytes.
+trait Entry<const N: usize>: Copy {
+    ghost bytes: { Self → List ℕ };
+
+    ghost named: { List ℕ → Self };
+
+    fn read(s: &[u8]) -> Self
+        requires { length s.now ≡ N }
+        ensures { result ≡ named s.now };
+
+    fn write(self) -> [u8; N]
+        ensures { result ≡ bytes self };
+
+    // What is written is read back.
+    ghost back: { (x : Self) → named (bytes x) ≡ x };
+
+    ghost size: { (x : Self) → length (bytes x) ≡ N };
+}
+
+impl Entry<WORD> for u16 {
+    ghost use Rattle.record_bytes.specs.Codes.{word_bytes};
+    ghost use Rattle.record_bytes.specs.Layout.{word_of};
+    ghost use Rattle.record_bytes.specs.Entries.{word-back, word-length};
+
+    ghost bytes = { word_bytes };
+
+    ghost named = { word_of };
+
+    ghost back = { word-back };
+
+    ghost size = { word-length };
+
+    fn read(s: &[u8]) -> u16 {
+        control::word(s[0], s[1])
+    }
+
+    fn write(self) -> [u8; WORD] {
+        self.to_le_bytes()
+    }
+}
+
+impl Entry<INTERFACE> for Interface {
+    ghost use Rattle.record_bytes.specs.Layout.{interface_bytes, interface_of};
+    ghost use Rattle.record_bytes.specs.Entries.{interface-back, interface-length};
+
+    ghost bytes = { interface_bytes };
+
+    ghost named = { interface_of };
+
+    ghost back = { interface-back };
+
+    ghost size = { interface-length };
+
+    fn read(s: &[u8]) -> Interface {
+        Interface {
+            class: s[0],
+            subclass: s[1],
+            protocol: s[2],
+        }
+    }
+
+    fn write(self) -> [u8; INTERFACE] {
+        [self.class, self.subclass, self.protocol]
+    }
+}
+
+impl Entry<ENDPOINT> for Endpoint {
+    ghost use Rattle.record_bytes.specs.Layout.{endpoint_bytes, endpoint_of};
+    ghost use Rattle.record_bytes.specs.Entries.{endpoint-back, endpoint-length};
+
+    ghost bytes = { endpoint_bytes };
+
+    ghost named = { endpoint_of };
+
+    ghost back = { endpoint-back };
+
+    ghost size = { endpoint-length };
+
+    fn read(s: &[u8]) -> Endpoint {
+        Endpoint {
+            address: EndpointAddress(s[0]),
+            kind: Kind::of_code(s[1]),
+            size: s[2],
+            interval: s[3],
+            interface: s[4],
+        }
+    }
+
+    fn write(self) -> [u8; ENDPOINT] {
+        [
+            self.address.0,
+            self.kind.code(),
+            self.size,
+            self.interval,
+            self.interface,
+        ]
+    }
+}
+
+// The entries of a list, one behind the other.
+fn read_all<T: Entry<N>, const N: usize>(s: &[u8], list: &mut [T])
+    requires { length s.now ≡ N * length list.old }
+    ensures { list.new ≡ entries (length list.old) N T.Entry.named s.now }
+{
+    for (i, x) in list.iter_mut().enumerate() {
+        *x = T::read(&s[N * i..N * i + N]);
+    }
+}
+
+// The same written from a place on.
+fn write_all<T: Entry<N>, const N: usize>(list: &[T], dst: &mut [u8], at: usize)
+    requires { at + N * length list.now ≤ length dst.old }
+    ensures { dst.new ≡ placed dst.old at (joined T.Entry.bytes list.now) }
+{
+    for (i, x) in list.iter().enumerate() {
+        let from = at + N * i;
+        dst[from..from + N].copy_from_slice(&x.write());
+    }
+}
+
 // ---- reading
 
-fn kind_of(n: u8) -> Kind
-    ensures { result ≡ kind_of n }
-{
-    match n {
-        0 => Kind::Bulk,
-        _ => Kind::Interrupt,
-    }
-}
-
-fn interface_of(s: &[u8]) -> Interface
-    requires { length s.now ≡ interface_size }
-    ensures { result ≡ interface_of s.now }
-{
-    Interface {
-        class: s[0],
-        subclass: s[1],
-        protocol: s[2],
-    }
-}
-
-fn endpoint_of(s: &[u8]) -> Endpoint
-    requires { length s.now ≡ endpoint_size }
-    ensures { result ≡ endpoint_of s.now }
-{
-    Endpoint {
-        address: EndpointAddress(s[0]),
-        kind: kind_of(s[1]),
-        size: s[2],
-        interval: s[3],
-        interface: s[4],
-    }
-}
-
-fn interfaces_of(s: &[u8]) -> [Interface; INTERFACES]
-    requires { length s.now ≡ interface_size * interface_room }
-    ensures { result ≡ entries interface_room interface_size interface_of s.now }
-{
-    let none = Interface {
-        class: 0,
-        subclass: 0,
-        protocol: 0,
-    };
-    let mut list = [none; INTERFACES];
-    let mut i: usize = 0;
-    while i < INTERFACES {
-        let at = INTERFACE * i;
-        let x = interface_of(&s[at..at + INTERFACE]);
-        list[i] = x;
-        i += 1;
-    }
-    list
-}
-
-fn endpoints_of(s: &[u8]) -> [Endpoint; ENDPOINTS]
-    requires { length s.now ≡ endpoint_size * endpoint_room }
-    ensures { result ≡ entries endpoint_room endpoint_size endpoint_of s.now }
-{
-    let none = Endpoint {
-        address: EndpointAddress(0),
-        kind: Kind::Bulk,
-        size: 0,
-        interval: 0,
-        interface: 0,
-    };
-    let mut list = [none; ENDPOINTS];
-    let mut i: usize = 0;
-    while i < ENDPOINTS {
-        let at = ENDPOINT * i;
-        let x = endpoint_of(&s[at..at + ENDPOINT]);
-        list[i] = x;
-        i += 1;
-    }
-    list
-}
-
-fn words_of(s: &[u8], dst: &mut [u16])
-    requires { length s.now ≡ word_size * length dst.old }
-    ensures { dst.new ≡ entries (length dst.old) word_size word_of s.now }
-{
-    let mut i: usize = 0;
-    while i < dst.len() {
-        dst[i] = control::word(s[WORD * i], s[WORD * i + 1]);
-        i += 1;
-    }
-}
-
-fn basics_of(s: &[u8]) -> Basics
-    requires { length s.now ≡ record_size }
+#[tactic(auto, unfolding(crate::specs::Layout::basics_of))]
+fn basics_of(s: &[u8; RECORD]) -> Basics
     ensures { result ≡ basics_of s.now }
 {
     Basics {
@@ -140,49 +178,60 @@ fn basics_of(s: &[u8]) -> Basics
     }
 }
 
-fn plan_of(s: &[u8]) -> Plan
-    requires { length s.now ≡ record_size }
+#[tactic(auto, unfolding(crate::specs::Layout::plan_of))]
+fn plan_of(s: &[u8; RECORD]) -> Plan
     ensures { result ≡ plan_of s.now }
 {
-    let interfaces = Interfaces {
-        count: s[14],
-        list: interfaces_of(&s[HEAD..ENDPOINT_PLACE]),
-    };
-    let endpoints = Endpoints {
-        count: s[15],
-        list: endpoints_of(&s[ENDPOINT_PLACE..LANGUAGE_PLACE]),
-    };
-    Plan {
-        basics: basics_of(s),
-        interfaces,
-        endpoints,
-        languages: s[16],
-    }
+    let mut plan = Plan::new(basics_of(s));
+    plan.interfaces.count = s[14];
+    plan.endpoints.count = s[15];
+    plan.languages = s[16];
+    read_all(&s[HEAD..ENDPOINT_PLACE], &mut plan.interfaces.list);
+    read_all(&s[ENDPOINT_PLACE..LANGUAGE_PLACE], &mut plan.endpoints.list);
+    plan
 }
 
-fn record_of(s: &[u8]) -> Record
-    requires { length s.now ≡ record_size }
-    ensures { result ≡ record_of s.now }
+// The string at a place among all of them.
+fn read_text(s: &[u8; RECORD], slot: usize, text: &mut Text)
+    requires { slot < string_room }
+    ensures { text.new ≡ text_of slot s.now }
 {
-    let mut ids = [0u16; LANGUAGES];
-    words_of(&s[LANGUAGE_PLACE..LENGTH_PLACE], &mut ids);
-    let mut lens = [0u8; STRINGS];
-    common::put(s, LENGTH_PLACE, STRINGS, &mut lens, 0);
-    let mut units = [0u16; TEXT];
-    words_of(&s[UNIT_PLACE..RECORD], &mut units);
-    Record {
-        plan: plan_of(s),
-        ids,
-        lens,
-        units,
+    let at = UNIT_PLACE + UNIT_BYTES * slot;
+    text.len = s[LENGTH_PLACE + slot];
+    read_all(&s[at..at + UNIT_BYTES], &mut text.units);
+}
+
+// The strings of the language at a place.
+fn read_texts(s: &[u8; RECORD], i: usize, texts: &mut [Text; NAMES])
+    requires { i < language_room }
+    ensures { texts.new ≡ texts_of i s.now }
+{
+    for (k, text) in texts.iter_mut().enumerate() {
+        read_text(s, NAMES * i + k, text);
     }
 }
 
-// The record of bytes. A byte that is no code is read as some code: `fine` tells of it.
+// The language at a place.
+fn read_language(s: &[u8; RECORD], i: usize, language: &mut Language)
+    requires { i < language_room }
+    ensures { language.new ≡ language_of i s.now }
+{
+    let at = LANGUAGE_PLACE + WORD * i;
+    language.id = control::word(s[at], s[at + 1]);
+    read_texts(s, i, &mut language.names);
+}
+
+/// The record of bytes. A byte that is no code is read as some code: [`fine`] tells of it.
 pub fn read(s: &[u8; RECORD]) -> Record
     ensures { result ≡ record_of s.now }
 {
-    record_of(s)
+    let plan = plan_of(s);
+    let mut profile = Record::new(plan);
+    profile.plan.languages = plan.languages;
+    for (i, language) in profile.languages.iter_mut().enumerate() {
+        read_language(s, i, language);
+    }
+    profile
 }
 
 // ---- which bytes are a record's
@@ -191,114 +240,43 @@ fn endpoints_fine(s: &[u8]) -> bool
     requires { length s.now ≡ endpoint_size * endpoint_room }
     ensures { result ≡ every endpoint_coded (entries endpoint_room endpoint_size same s.now) }
 {
-    let mut i: usize = 0;
-    while i < ENDPOINTS {
+    for i in 0..ENDPOINTS {
         if 1 < s[ENDPOINT * i + 1] {
             return false;
         }
-        i += 1;
     }
     true
 }
 
-fn codes_fine(s: &[u8]) -> bool
-    requires { length s.now ≡ record_size }
-    ensures { result ≡ record_coded s.now }
-{
-    if 1 < s[11] {
-        return false;
-    }
-    if 1 < s[12] {
-        return false;
-    }
-    if 1 < s[13] {
-        return false;
-    }
-    endpoints_fine(&s[ENDPOINT_PLACE..LANGUAGE_PLACE])
-}
-
-// Whether the bytes are what a record is written as: each flag and kind is a code.
+/// Whether the bytes are what a record is written as: each flag and kind is a code.
+#[tactic(auto, unfolding(crate::specs::Layout::record_coded))]
 pub fn fine(s: &[u8; RECORD]) -> bool
     ensures { result ≡ record_coded s.now }
 {
-    codes_fine(s)
+    s[11] <= 1 && s[12] <= 1 && s[13] <= 1 && endpoints_fine(&s[ENDPOINT_PLACE..LANGUAGE_PLACE])
 }
 
 // ---- writing
 
-fn kind_code(kind: Kind) -> u8
-    ensures { result ≡ kind_code kind }
+#[tactic(auto, unfolding(crate::specs::Layout::head_bytes))]
+fn head(p: &Plan) -> [u8; HEAD]
+    ensures { result ≡ head_bytes p.now }
 {
-    match kind {
-        Kind::Bulk => 0,
-        Kind::Interrupt => 1,
-    }
-}
-
-fn put_interfaces(list: [Interface; INTERFACES], dst: &mut [u8], at: usize)
-    requires { at + interface_size * interface_room ≤ length dst.old }
-    ensures { (dst.new ≡ placed dst.old at (joined interface_bytes list)) × (length list ≡ interface_room) }
-{
-    let mut i: usize = 0;
-    while i < INTERFACES {
-        let x = list[i];
-        let d = [x.class, x.subclass, x.protocol];
-        common::put(&d, 0, INTERFACE, dst, at + INTERFACE * i);
-        i += 1;
-    }
-}
-
-fn put_endpoint(e: Endpoint, dst: &mut [u8], at: usize)
-    requires { at + endpoint_size ≤ length dst.old }
-    ensures { dst.new ≡ placed dst.old at (endpoint_bytes e) }
-{
-    let kind = e.kind;
-    let code = kind_code(kind);
-    let d = [e.address.0, code, e.size, e.interval, e.interface];
-    common::put(&d, 0, ENDPOINT, dst, at);
-}
-
-fn put_endpoints(list: [Endpoint; ENDPOINTS], dst: &mut [u8], at: usize)
-    requires { at + endpoint_size * endpoint_room ≤ length dst.old }
-    ensures { (dst.new ≡ placed dst.old at (joined endpoint_bytes list)) × (length list ≡ endpoint_room) }
-{
-    let mut i: usize = 0;
-    while i < ENDPOINTS {
-        let x = list[i];
-        put_endpoint(x, dst, at + ENDPOINT * i);
-        i += 1;
-    }
-}
-
-fn put_words(src: &[u16], dst: &mut [u8], at: usize)
-    requires { at + word_size * length src.now ≤ length dst.old }
-    ensures { dst.new ≡ placed dst.old at (joined word_bytes src.now) }
-{
-    let mut i: usize = 0;
-    while i < src.len() {
-        let n = src[i];
-        let d = [(n % 256) as u8, (n / 256) as u8];
-        common::put(&d, 0, WORD, dst, at + WORD * i);
-        i += 1;
-    }
-}
-
-fn put_head(p: Plan, dst: &mut [u8])
-    requires { head_size ≤ length dst.old }
-    ensures { dst.new ≡ placed dst.old 0 (head_bytes p) }
-{
-    let b = p.basics;
-    let d = [
+    let b = &p.basics;
+    let vendor = b.vendor.to_le_bytes();
+    let product = b.product.to_le_bytes();
+    let release = b.release.to_le_bytes();
+    [
         b.packet,
         b.class,
         b.subclass,
         b.protocol,
-        (b.vendor % 256) as u8,
-        (b.vendor / 256) as u8,
-        (b.product % 256) as u8,
-        (b.product / 256) as u8,
-        (b.release % 256) as u8,
-        (b.release / 256) as u8,
+        vendor[0],
+        vendor[1],
+        product[0],
+        product[1],
+        release[0],
+        release[1],
         b.power,
         b.powered as u8,
         b.wakeup as u8,
@@ -306,45 +284,85 @@ fn put_head(p: Plan, dst: &mut [u8])
         p.interfaces.count,
         p.endpoints.count,
         p.languages,
-    ];
-    common::put(&d, 0, HEAD, dst, 0);
+    ]
 }
 
-fn put_plan(p: Plan, dst: &mut [u8])
-    requires { record_size ≤ length dst.old }
-    ensures { (dst.new ≡ placed dst.old 0 (plan_bytes p)) × Planned p }
+#[tactic(auto, unfolding(crate::specs::Layout::plan_bytes))]
+fn write_plan(p: &Plan, dst: &mut [u8; RECORD])
+    ensures bytes { dst.new ≡ placed dst.old 0 (plan_bytes p.now) }
+    ensures size { length (plan_bytes p.now) ≡ language_place }
 {
-    let interfaces = p.interfaces.list;
-    let endpoints = p.endpoints.list;
-    put_head(p, dst);
-    put_interfaces(interfaces, dst, HEAD);
-    put_endpoints(endpoints, dst, ENDPOINT_PLACE);
+    dst[..HEAD].copy_from_slice(&head(p));
+    write_all(&p.interfaces.list, dst, HEAD);
+    write_all(&p.endpoints.list, dst, ENDPOINT_PLACE);
 }
 
-fn put_strings<'a>(
-    ids: &'a [u16; LANGUAGES],
-    lens: &'a [u8; STRINGS],
-    units: &'a [u16; TEXT],
-    dst: &mut [u8],
-)
-    requires { record_size ≤ length dst.old }
-    ensures { dst.new ≡ placed dst.old language_place (strings_bytes ids.now lens.now units.now) }
+fn write_ids(languages: &[Language; LANGUAGES], dst: &mut [u8; RECORD])
+    ensures bytes { dst.new ≡ placed dst.old language_place (joined id_bytes languages.now) }
+    ensures size { length (joined id_bytes languages.now) ≡ word_size * language_room }
 {
-    put_words(ids, dst, LANGUAGE_PLACE);
-    common::put(lens, 0, STRINGS, dst, LENGTH_PLACE);
-    put_words(units, dst, UNIT_PLACE);
+    for (i, language) in languages.iter().enumerate() {
+        let at = LANGUAGE_PLACE + WORD * i;
+        dst[at..at + WORD].copy_from_slice(&language.id.write());
+    }
 }
 
-// The bytes of a record.
-pub fn write(r: Record) -> [u8; RECORD]
-    ensures { result ≡ record_bytes r }
+// The lengths of a language's strings.
+fn write_lengths(texts: &[Text; NAMES], dst: &mut [u8; RECORD], at: usize)
+    requires { at + names ≤ record_size }
+    ensures bytes { dst.new ≡ placed dst.old at (joined length_bytes texts.now) }
+    ensures size { length (joined length_bytes texts.now) ≡ names }
 {
-    let plan = r.plan;
-    let ids = r.ids;
-    let lens = r.lens;
-    let units = r.units;
-    let mut d = [0u8; RECORD];
-    put_plan(plan, &mut d);
-    put_strings(&ids, &lens, &units, &mut d);
+    for (k, text) in texts.iter().enumerate() {
+        dst[at + k] = text.len;
+    }
+}
+
+fn write_all_lengths(languages: &[Language; LANGUAGES], dst: &mut [u8; RECORD])
+    ensures bytes { dst.new ≡ placed dst.old length_place (joined lengths_bytes languages.now) }
+    ensures size { length (joined lengths_bytes languages.now) ≡ string_room }
+{
+    for (i, language) in languages.iter().enumerate() {
+        write_lengths(&language.names, dst, LENGTH_PLACE + NAMES * i);
+    }
+}
+
+fn write_units(units: &[u16; UNITS], dst: &mut [u8; RECORD], at: usize)
+    requires { at + text_size ≤ record_size }
+    ensures bytes { dst.new ≡ placed dst.old at (joined word_bytes units.now) }
+    ensures size { length (joined word_bytes units.now) ≡ text_size }
+{
+    write_all(units, dst, at);
+}
+
+// The units of a language's strings.
+fn write_texts(texts: &[Text; NAMES], dst: &mut [u8; RECORD], at: usize)
+    requires { at + names * text_size ≤ record_size }
+    ensures bytes { dst.new ≡ placed dst.old at (joined text_bytes texts.now) }
+    ensures size { length (joined text_bytes texts.now) ≡ names * text_size }
+{
+    for (k, text) in texts.iter().enumerate() {
+        write_units(&text.units, dst, at + UNIT_BYTES * k);
+    }
+}
+
+fn write_all_texts(languages: &[Language; LANGUAGES], dst: &mut [u8; RECORD])
+    ensures bytes { dst.new ≡ placed dst.old unit_place (joined texts_bytes languages.now) }
+    ensures size { length (joined texts_bytes languages.now) ≡ word_size * text_room }
+{
+    for (i, language) in languages.iter().enumerate() {
+        write_texts(&language.names, dst, UNIT_PLACE + UNIT_BYTES * NAMES * i);
+    }
+}
+
+/// The bytes of a record.
+pub fn write(profile: &Record) -> [u8; RECORD]
+    ensures { result ≡ record_bytes profile.now }
+{
+    let mut d = [0; RECORD];
+    write_plan(&profile.plan, &mut d);
+    write_ids(&profile.languages, &mut d);
+    write_all_lengths(&profile.languages, &mut d);
+    write_all_texts(&profile.languages, &mut d);
     d
 }

@@ -9,6 +9,3 @@ use Rattle.record_bytes.proofs.endpoints_fine.Given as goal
 
 abbrev pub invariant-loop-i : goal.invariant-loop-i
 invariant-loop-i l = every endpoint_coded (entries endpoint_room endpoint_size same l.s) ≡ every endpoint_coded (entries (endpoint_room - l.i) endpoint_size same (drop (endpoint_size * l.i) l.s))
-
-abbrev pub decreases-loop-i : goal.decreases-loop-i
-decreases-loop-i l = endpoint_room - l.i

@@ -1,8 +1,11 @@
-use Rattle.record_bytes.proofs.Lengths.{record-placed}
 use mathlib.Core.Path.{refl}
-use borrow.Author.Rules.{rules}
+use Rattle.record_bytes.proofs.Lengths.{record-placed}
 use Rattle.record_bytes.proofs.write.Goals as goal
 
 pub returns : goal.returns
 returns c =
-    record-placed c.args.r _ (record { plan = c.put_plan.ensures.1; ids = search rules; lens = search rules; units = search rules }) refl c.put_plan.ensures.0 c.put_strings.ensures
+    let p = c.write_plan.ensures in
+    let i = c.write_ids.ensures in
+    let n = c.write_all_lengths.ensures in
+    let t = c.write_all_texts.ensures in
+    record-placed c.args.profile.now _ refl p.bytes i.bytes n.bytes t.bytes p.size i.size n.size t.size c.write_plan.array_long
