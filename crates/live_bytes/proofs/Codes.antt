@@ -1,4 +1,4 @@
--- The codes and the tables that read them agree. Assumes nothing.
+-- Each code is at most the highest, and a number up to it is the code of what it names. Assumes nothing.
 use Prim.Native.Nat.{ℕ, zero, suc, ◌≤◌}
 use mathlib.Core.Bool.{true}
 use mathlib.Core.Path.{◌≡◌, refl}
@@ -17,23 +17,13 @@ use Rattle.control_pipe.specs.declared.Source.{Source}
 use Rattle.control_pipe.specs.declared.Source.TheVariants.{Buffer, Book}
 use Rattle.requests.specs.declared.State.{State}
 use Rattle.requests.specs.declared.State.TheVariants.{Default, Addressed, Configured, Suspend}
-use Rattle.live_bytes.specs.Layout.{stage_code, direction_code, type_code, recipient_code, source_code, state_code, stage_of, direction_of, type_of, recipient_of, source_of, state_of}
+use Rattle.control.specs.Codes.{direction_code, direction_of_code, type_code, type_of_code, recipient_code, recipient_of_code}
+use Rattle.control_pipe.specs.Codes.{stage_code, stage_of, source_code, source_of}
+use Rattle.requests.specs.Codes.{state_code, state_of}
 
 -- a number above all codes
 over : {A : Type 0} (m n : ℕ) → m ≤ n → leb (suc n) m ≡ true → A
 over m n l e = absurd (let k : suc n ≤ m = leb-true (suc n) m e in omega (arith, l, k))
-
-pub stage-named : (x : Stage) → stage_of (stage_code x) ≡ x
-stage-named Idle = refl
-stage-named DataIn = refl
-stage-named DataInZlp = refl
-stage-named DataInLast = refl
-stage-named CompleteIn = refl
-stage-named StatusOut = refl
-stage-named CompleteOut = refl
-stage-named DataOut = refl
-stage-named StatusIn = refl
-stage-named Error = refl
 
 pub stage-coded : (x : Stage) → leb (stage_code x) 9 ≡ true
 stage-coded Idle = refl
@@ -60,24 +50,14 @@ stage-back (suc (suc (suc (suc (suc (suc (suc (suc zero)))))))) e = refl
 stage-back (suc (suc (suc (suc (suc (suc (suc (suc (suc zero))))))))) e = refl
 stage-back (suc (suc (suc (suc (suc (suc (suc (suc (suc (suc n)))))))))) e = over 9 (suc (suc (suc (suc (suc (suc (suc (suc (suc n))))))))) (omega arith) e
 
-pub direction-named : (x : Direction) → direction_of (direction_code x) ≡ x
-direction-named Out = refl
-direction-named In = refl
-
 pub direction-coded : (x : Direction) → leb (direction_code x) 1 ≡ true
 direction-coded Out = refl
 direction-coded In = refl
 
-pub direction-back : (n : ℕ) → leb n 1 ≡ true → direction_code (direction_of n) ≡ n
+pub direction-back : (n : ℕ) → leb n 1 ≡ true → direction_code (direction_of_code n) ≡ n
 direction-back zero e = refl
 direction-back (suc zero) e = refl
 direction-back (suc (suc n)) e = over 1 (suc n) (omega arith) e
-
-pub type-named : (x : RequestType) → type_of (type_code x) ≡ x
-type-named Standard = refl
-type-named Class = refl
-type-named Vendor = refl
-type-named ReservedType = refl
 
 pub type-coded : (x : RequestType) → leb (type_code x) 3 ≡ true
 type-coded Standard = refl
@@ -85,19 +65,12 @@ type-coded Class = refl
 type-coded Vendor = refl
 type-coded ReservedType = refl
 
-pub type-back : (n : ℕ) → leb n 3 ≡ true → type_code (type_of n) ≡ n
+pub type-back : (n : ℕ) → leb n 3 ≡ true → type_code (type_of_code n) ≡ n
 type-back zero e = refl
 type-back (suc zero) e = refl
 type-back (suc (suc zero)) e = refl
 type-back (suc (suc (suc zero))) e = refl
 type-back (suc (suc (suc (suc n)))) e = over 3 (suc (suc (suc n))) (omega arith) e
-
-pub recipient-named : (x : Recipient) → recipient_of (recipient_code x) ≡ x
-recipient-named Device = refl
-recipient-named Interface = refl
-recipient-named Endpoint = refl
-recipient-named Other = refl
-recipient-named Reserved = refl
 
 pub recipient-coded : (x : Recipient) → leb (recipient_code x) 4 ≡ true
 recipient-coded Device = refl
@@ -106,17 +79,13 @@ recipient-coded Endpoint = refl
 recipient-coded Other = refl
 recipient-coded Reserved = refl
 
-pub recipient-back : (n : ℕ) → leb n 4 ≡ true → recipient_code (recipient_of n) ≡ n
+pub recipient-back : (n : ℕ) → leb n 4 ≡ true → recipient_code (recipient_of_code n) ≡ n
 recipient-back zero e = refl
 recipient-back (suc zero) e = refl
 recipient-back (suc (suc zero)) e = refl
 recipient-back (suc (suc (suc zero))) e = refl
 recipient-back (suc (suc (suc (suc zero)))) e = refl
 recipient-back (suc (suc (suc (suc (suc n))))) e = over 4 (suc (suc (suc (suc n)))) (omega arith) e
-
-pub source-named : (x : Source) → source_of (source_code x) ≡ x
-source-named Buffer = refl
-source-named Book = refl
 
 pub source-coded : (x : Source) → leb (source_code x) 1 ≡ true
 source-coded Buffer = refl
@@ -126,12 +95,6 @@ pub source-back : (n : ℕ) → leb n 1 ≡ true → source_code (source_of n) �
 source-back zero e = refl
 source-back (suc zero) e = refl
 source-back (suc (suc n)) e = over 1 (suc n) (omega arith) e
-
-pub state-named : (x : State) → state_of (state_code x) ≡ x
-state-named Default = refl
-state-named Addressed = refl
-state-named Configured = refl
-state-named Suspend = refl
 
 pub state-coded : (x : State) → leb (state_code x) 3 ≡ true
 state-coded Default = refl

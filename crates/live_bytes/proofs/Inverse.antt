@@ -18,8 +18,11 @@ use Rattle.requests.specs.declared.Kept.{Kept}
 use Rattle.live.specs.declared.Live.{Live}
 use Rattle.record_bytes.specs.Codes.{coded}
 use Rattle.record_bytes.proofs.Numbers.{Small, both, flag-named, flag-coded, flag-back, word-named, word_back, long-named, long-back, cons_same, join-same, spelt, spells}
-use Rattle.live_bytes.specs.Layout.{live_size, top_bytes, request_bytes, reply_bytes, rest_bytes, live_bytes, request_of, reply_of, pipe_of, kept_of, live_of, pipe_coded, rest_coded, live_coded}
-use Rattle.live_bytes.proofs.Codes.{stage-named, stage-coded, stage-back, direction-named, direction-coded, direction-back, type-named, type-coded, type-back, recipient-named, recipient-coded, recipient-back, source-named, source-coded, source-back, state-named, state-coded, state-back}
+use Rattle.live_bytes.specs.Layout.{live_size, live_bytes, live_of, live_coded}
+use Rattle.control.specs.Codes.{direction_back as direction-named, type_back as type-named, recipient_back as recipient-named}
+use Rattle.control_pipe.specs.Codes.{stage_back as stage-named, source_back as source-named}
+use Rattle.requests.specs.Codes.{state_back as state-named}
+use Rattle.live_bytes.proofs.Codes.{stage-coded, stage-back, direction-coded, direction-back, type-coded, type-back, recipient-coded, recipient-back, source-coded, source-back, state-coded, state-back}
 
 -- ---- written, then read
 
@@ -42,7 +45,7 @@ live_same l e f g h i = rw (e, f, g, h, i)
 
 -- what is written is read back
 pub live_back : (l : Live) → live_of (live_bytes l) ≡ l
-unfolding top_bytes request_bytes reply_bytes rest_bytes live_bytes request_of reply_of pipe_of kept_of live_of
+unfolding live_bytes live_of
 live_back l =
     let p = l.pipe in
     let q = p.request in
@@ -61,7 +64,7 @@ live_back l =
 
 -- and is what a live part is written as
 pub live-coded : (l : Live) → live_coded (live_bytes l) ≡ true
-unfolding top_bytes request_bytes reply_bytes rest_bytes live_bytes pipe_coded rest_coded live_coded
+unfolding live_bytes live_coded
 live-coded l =
     let p = l.pipe in
     let q = p.request in
@@ -88,7 +91,7 @@ record Coded (s : List ℕ) : Type 0 where
   built : coded s 39 1 ≡ true
 
 each : (s : List ℕ) → live_coded s ≡ true → Coded s
-unfolding pipe_coded rest_coded live_coded
+unfolding live_coded
 each s e =
     let a₁ = coded s 0 9 in
     let a₂ = a₁ && coded s 1 1 in
@@ -127,7 +130,7 @@ each s e =
 
 -- what is read is what is written, of bytes that are a live part's
 pub live-forth : (s : List ℕ) → length s ≡ live_size → Small s → live_coded s ≡ true → live_bytes (live_of s) ≡ s
-unfolding top_bytes request_bytes reply_bytes rest_bytes live_bytes request_of reply_of pipe_of kept_of live_of spelt
+unfolding live_bytes live_of spelt
 live-forth s l h e =
     let c = each s e in
     let word = word_back s h in

@@ -2,3 +2,4 @@ pub mod Codes
 pub mod Inverse
 pub mod Lengths
 pub mod Pinned
+pub mod Spelt
