@@ -1,10 +1,7 @@
 -- Document 01, module 2: the writer holds the lent answer buffer and its position. An answer is appended whole, or not at all.
-use Rattle.std.specs.Prelude.{ℕ, ◌+◌, cond, List, [], ◌≡◌, eqb}
-use Rattle.std.proofs.Math.Option.{Option}
+use Rattle.std.specs.Prelude.{ℕ, ◌+◌, List, ◌≡◌, Option, Some, None, Ok, Err}
 use denote.Ref.{MutBor, at_last}
-use Rattle.descriptor.specs.declared.Written.{Written}
-use Rattle.descriptor.specs.declared.Written.TheVariants.{Bytes, Missing, Refused}
-use Rattle.descriptor.specs.Writing.{wrote_answer, wrote_buffer}
+use Rattle.descriptor.specs.Writing.{Written, wrote_answer, wrote_buffer}
 use Rattle.writer.specs.declared.Writer.{Writer}
 
 -- a writer at the start of a buffer
@@ -13,17 +10,13 @@ begun buf = record { buf = buf; at = 0 }
 
 -- the position behind the bytes that were written; as it was where none were
 abbrev pub past : Written → ℕ → ℕ
-past (Bytes n) at = at + n
-past Missing at = at
-past (Refused why) at = at
+past (Ok (Some n)) at = at + n
+past (Ok None) at = at
+past (Err why) at = at
 
 -- the next position after an answer of a record that a number refuses, or 0
 unfoldable pub next_of : ℕ → Option (List ℕ) → List ℕ → ℕ → ℕ
 next_of number answer buf at = past (wrote_answer number answer buf at) at
-
-pub record Next (r : ℕ) (exit : List ℕ) (number : ℕ) (answer : Option (List ℕ)) (entry : List ℕ) (at : ℕ) : Type 0 where
-  pub next : r ≡ next_of number answer entry at
-  pub buffer : exit ≡ wrote_buffer number answer entry at
 
 -- a writer after an answer: the same borrow at the buffer that the answer leaves, and the next position
 abbrev pub appended : Writer → ℕ → Option (List ℕ) → Writer
@@ -33,7 +26,3 @@ appended w number answer = record { buf = at_last w.buf (wrote_buffer number ans
 pub record Position (r : ℕ) (exit : List ℕ) (w : Writer) : Type 0 where
   pub value : r ≡ w.at
   pub buffer : exit ≡ w.buf.now
-
--- how a write into a whole buffer ended that left the position at n: at 0 as in a buffer that takes no byte
-unfoldable pub ended_at : ℕ → ℕ → Option (List ℕ) → Written
-ended_at n number answer = cond (eqb n 0) (wrote_answer number answer [] 0) (Bytes n)
