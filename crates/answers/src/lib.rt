@@ -1,88 +1,75 @@
-// The bytes that a decision answers with, written from the record into the control buffer.
+//! The bytes that a decision answers with (USB 2.0 sections 9.4.2 to 9.4.5), written from the record into the control buffer.
 #![tactic(auto)]
 
-ghost use Rattle.std.specs.Prelude.{◌≡◌, [], ◌∷◌};
-ghost use Rattle.writer.specs.Descriptors.{parts};
+ghost use Rattle.std.specs.Prelude.{◌≡◌, ◌≤◌, [], ◌∷◌, length};
+ghost use Rattle.control_pipe.specs.Sizes.{buffer_room};
 ghost use Rattle.answers.specs.Answers.{Answered, tell, filled_as, described, answer_of};
 
 use control::Request;
 use control_pipe::BUFFER;
-use plan::Plan;
-use record::{LANGUAGES, STRINGS, TEXT};
+use descriptor::Written;
+use record::Record;
 use requests::{Decision, Effect};
 use writer::Which;
 
-// What the pipe is to do: stall, send so many bytes of the buffer or the book from a byte on, or accept.
-#[derive(Clone, Copy)]
+/// What the pipe is to do with a request that it does not stall.
+#[derive(Clone, Copy, Debug, PartialEq, Eq)]
 pub enum Verdict {
-    Stall,
+    /// Send so many bytes from the front of the control buffer.
     Bytes(usize),
+    /// Send the tile book from a byte on.
     Tiles(u32),
+    /// Accept the request, with its effect.
     Accept(Effect),
 }
 
-// What is not written stalls.
-fn judged(n: usize) -> Verdict
-    ensures { result ≡ filled_as n }
+#[tactic(auto, unfolding(common::specs::Bytes::placed))]
+fn tell(bytes: &[u8], buffer: &mut [u8; BUFFER]) -> Option<Verdict>
+    requires { length bytes.now ≤ buffer_room }
+    ensures { Answered result buffer.new (tell bytes.now) buffer.old }
 {
-    if n == 0 {
-        return Verdict::Stall;
+    buffer[..bytes.len()].copy_from_slice(bytes);
+    Some(Verdict::Bytes(bytes.len()))
+}
+
+// What is not written stalls.
+fn judged(written: Written) -> Option<Verdict>
+    ensures { result ≡ filled_as written }
+{
+    match written {
+        Ok(Some(n)) => Some(Verdict::Bytes(n)),
+        Ok(None) | Err(_) => None,
     }
-    Verdict::Bytes(n)
 }
 
 // The descriptor that the request names.
-fn describe<'a>(
-    plan: Plan,
-    ids: &'a [u16; LANGUAGES],
-    lens: &'a [u8; STRINGS],
-    units: &'a [u16; TEXT],
-    request: Request,
-    buffer: &mut [u8; BUFFER],
-) -> Verdict
-    ensures { Answered result buffer.new (described (parts plan ids.now lens.now units.now) request) buffer.old }
+fn describe(profile: &Record, request: &Request, buffer: &mut [u8; BUFFER]) -> Option<Verdict>
+    ensures { Answered result buffer.new (described profile.now request.now) buffer.old }
 {
-    let t = request.descriptor_type_index();
+    let named = request.descriptor_type_index();
     let which = Which {
-        kind: t.kind,
-        index: t.index,
+        kind: named.kind,
+        index: named.index,
         language: request.index,
     };
-    judged(writer::fill(plan, ids, lens, units, which, buffer))
+    judged(writer::fill(profile, which, buffer))
 }
 
-fn one(n: u8, buffer: &mut [u8; BUFFER]) -> Verdict
-    ensures { Answered result buffer.new (tell (n ∷ [])) buffer.old }
-{
-    common::put(&[n], 0, 1, buffer, 0);
-    Verdict::Bytes(1)
-}
-
-fn two(n: u8, buffer: &mut [u8; BUFFER]) -> Verdict
-    ensures { Answered result buffer.new (tell (n ∷ 0 ∷ [])) buffer.old }
-{
-    common::put(&[n, 0], 0, 2, buffer, 0);
-    Verdict::Bytes(2)
-}
-
-// What is decided, with the bytes that it sends in the buffer.
-pub fn write<'a>(
+/// What the pipe is to do of a decision; `None`: both directions stall. The bytes that it sends are then at the front of the buffer.
+#[tactic(auto, unfolding(crate::specs::Answers::answer_of))]
+pub fn write(
     decision: Decision,
-    plan: Plan,
-    ids: &'a [u16; LANGUAGES],
-    lens: &'a [u8; STRINGS],
-    units: &'a [u16; TEXT],
-    request: Request,
+    profile: &Record,
+    request: &Request,
     buffer: &mut [u8; BUFFER],
-) -> Verdict
-    ensures { Answered result buffer.new (answer_of (parts plan ids.now lens.now units.now) request decision) buffer.old }
+) -> Option<Verdict>
+    ensures { Answered result buffer.new (answer_of profile.now request.now decision) buffer.old }
 {
     match decision {
-        Decision::Stall => Verdict::Stall,
-        Decision::Status(n) => two(n, buffer),
-        Decision::Byte(n) => one(n, buffer),
-        Decision::Describe => describe(plan, ids, lens, units, request, buffer),
-        Decision::Tiles(start) => Verdict::Tiles(start),
-        Decision::Accept(effect) => Verdict::Accept(effect),
+        Decision::Status(n) => tell(&[n, 0], buffer),
+        Decision::Byte(n) => tell(&[n], buffer),
+        Decision::Describe => describe(profile, request, buffer),
+        Decision::Tiles(start) => Some(Verdict::Tiles(start)),
+        Decision::Accept(effect) => Some(Verdict::Accept(effect)),
     }
 }
