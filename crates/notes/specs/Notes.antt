@@ -1,6 +1,5 @@
 -- Document 01, "Field notes to check": the starred notes as one table, and what each says of the definitions.
-use Rattle.std.specs.Prelude.{ℕ, ◌+◌, ◌*◌, true, false, List, [], ◌∷◌, ◌≡◌, length}
-use Rattle.std.proofs.Math.Option.{some}
+use Rattle.std.specs.Prelude.{ℕ, ◌+◌, ◌*◌, true, false, List, [], ◌∷◌, ◌≡◌, length, Some, Ok, Err}
 use Rattle.common.specs.Refusals.{refusal}
 use Rattle.control.specs.declared.Direction.{Direction}
 use Rattle.control.specs.declared.Direction.TheVariants.{In, Out}
@@ -9,7 +8,6 @@ use Rattle.control.specs.declared.RequestType.TheVariants.{Standard, Vendor, Res
 use Rattle.control.specs.declared.Recipient.{Recipient}
 use Rattle.control.specs.declared.Recipient.TheVariants.{Device, Other, Reserved}
 use Rattle.control.specs.declared.Request.{Request}
-use Rattle.control.specs.declared.Parsed.TheVariants.{Good, Refused}
 use Rattle.control.specs.Setup.{parsed}
 use Rattle.record.specs.declared.Record.{Record}
 use Rattle.plan.specs.declared.Kind.TheVariants.{Bulk}
@@ -52,20 +50,20 @@ Packets (n ∷ ns) book m = (m.told ≡ Write n) × ((length m.packet ≡ n) × 
 
 abbrev pub holds : Note → Type 0
 -- a SETUP of these bytes is this request
-holds (reads bytes r) = parsed bytes ≡ Good r
+holds (reads bytes r) = parsed bytes ≡ Ok r
 -- a SETUP whose first byte this is has this direction, type and recipient, whatever the other seven are
 holds (opens b d t p) =
     (b₁ b₂ b₃ b₄ b₅ b₆ b₇ : ℕ)
     → parsed (b ∷ b₁ ∷ b₂ ∷ b₃ ∷ b₄ ∷ b₅ ∷ b₆ ∷ b₇ ∷ [])
-    ≡ Good (record { direction = d; kind = t; recipient = p; request = b₁; value = b₂ + 256 * b₃; index = b₄ + 256 * b₅; length = b₆ + 256 * b₇ })
+    ≡ Ok (record { direction = d; kind = t; recipient = p; request = b₁; value = b₂ + 256 * b₃; index = b₄ + 256 * b₅; length = b₆ + 256 * b₇ })
 -- no SETUP of this many bytes is a request
-holds (refuses n) = (s : List ℕ) → length s ≡ n → parsed s ≡ Refused (refusal 11)
+holds (refuses n) = (s : List ℕ) → length s ≡ n → parsed s ≡ Err (refusal 11)
 -- no number refuses the record
-holds (takes r) = lowest r.plan r.ids r.lens ≡ 0
+holds (takes r) = lowest r ≡ 0
 -- the descriptors of the record
-holds (describes r bytes) = device_bytes r.plan r.lens ≡ bytes
+holds (describes r bytes) = device_bytes r ≡ bytes
 holds (configures r bytes) = configuration_bytes r.plan ≡ bytes
-holds (spells r number language bytes) = string_of r.plan.languages r.ids r.lens r.units number language ≡ some bytes
+holds (spells r number language bytes) = string_of r number language ≡ Some bytes
 -- an answer of so many bytes, to a request of this wLength, goes out in packets of these lengths, whatever the bytes are
 holds (sends n wanted lengths) =
     (q : Request) → q.length ≡ wanted → (b book : List ℕ) → length b ≡ buffer_room
@@ -77,9 +75,9 @@ abbrev pub All : List Note → Type 0
 All [] = Unit {0}
 All (n ∷ ns) = holds n × All ns
 
--- the device of notes 4 to 6, filled as a person fills it
-unfoldable pub pan : Record
-pan =
+-- the device of notes 4 to 6, filled as a person fills it, at any packet size of endpoint 0
+unfoldable pub sized : ℕ → Record
+sized n =
     with_string Product (0x50 ∷ 0x61 ∷ 0x6e ∷ [])
     (with_string Manufacturer (0x50 ∷ 0x61 ∷ 0x6e ∷ [])
     (with_language 0x0409
@@ -88,7 +86,7 @@ pan =
     (with_interface (record { class = 0xff; subclass = 0; protocol = 0 })
     (bare
     (record {
-      packet = 8;
+      packet = n;
       class = 0;
       subclass = 0;
       protocol = 0;
@@ -100,6 +98,10 @@ pan =
       wakeup = false;
       quirk = false;
     })))))))
+
+-- .. and at the notes' own
+unfoldable pub pan : Record
+pan = sized size
 
 abbrev pub notes : List Note
 notes =

@@ -1,3 +1,3 @@
-// The starred field notes of document 01 as one table under one claim: specs/Notes.antt and proofs/Notes.antt.
-// There is no code here; the program `runs` runs the notes.
+//! The starred field notes as one table under one claim: specs/Notes.antt and proofs/Notes.antt.
+//! There is no code here; the program `runs` runs the notes.
 #![tactic(auto)]

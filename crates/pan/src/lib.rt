@@ -1,20 +1,30 @@
-// The device of field notes 4 to 6, which the programs drive: its record, as the table of the notes has it.
+//! The device of field notes 4 to 6, which the programs drive: its record, as the table of the notes has it.
 #![tactic(auto)]
 
 ghost use Rattle.std.specs.Prelude.{◌≡◌};
-ghost use Rattle.notes.specs.Notes.{pan};
+ghost use Rattle.notes.specs.Notes.{sized, pan};
 
 use control::EndpointAddress;
 use plan::{Basics, Endpoint, Interface, Kind, Plan};
 use record::{Name, Record};
 
-// Packet size 8, vendor 1234h, product 0138h, 100 mA; one interface of class FF with endpoint 81h, bulk, 64 bytes; language
-// 0409h with "Pan" for strings 1 and 2.
+/// The packet size of endpoint 0 in the notes, in bytes.
+pub const PACKET: u8 = 8;
+
+/// Vendor 1234h, product 0138h, 100 mA; one interface of class FF with endpoint 81h, bulk, 64 bytes; language 0409h with "Pan"
+/// for strings 1 and 2.
 pub fn noted() -> Record
     ensures { result ≡ pan }
 {
+    sized(PACKET)
+}
+
+/// The same record with another packet size of endpoint 0, in bytes.
+pub fn sized(packet: u8) -> Record
+    ensures { result ≡ sized packet }
+{
     let basics = Basics {
-        packet: 8,
+        packet,
         class: 0,
         subclass: 0,
         protocol: 0,

@@ -3,4 +3,4 @@ use Rattle.pan.proofs.noted.Goals as goal
 
 pub returns : goal.returns
 unfolding pan
-returns c = simp (c.with_string-2.ensures, c.with_string.ensures, c.with_language.ensures, c.new-2.ensures, c.with_endpoint-plan.ensures, c.with_interface.ensures, c.new.ensures)
+returns c = c.sized.ensures
