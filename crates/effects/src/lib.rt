@@ -1,19 +1,17 @@
-// The second half of an event, on the parts of a device that a SETUP changes: an answer sets out, or an IN-complete is handled.
+//! The second half of an event: an answer sets out, or an IN-complete is handled (USB 2.0 sections 9.4.1, 9.4.6 and 9.4.9).
 #![tactic(auto)]
 
-ghost use Rattle.std.specs.Prelude.{◌≡◌, not, ◌&&◌, [], ◌-◌, eqb};
-ghost use Rattle.control_pipe.specs.Stages.{stalled, accept_in};
-ghost use Rattle.effects.specs.declared.Action.TheVariants.{Nothing as NoAction};
-ghost use Rattle.effects.specs.Effects.{Halved, half_of, with_pipe, in_state, turned, moving, halting, awaiting, effected, action_of, accepted, set_out, addressed, ticked};
+ghost use Rattle.std.specs.Prelude.{◌≡◌};
+ghost use Rattle.effects.specs.Effects.{Halved, halting, effected, action_of, set_out, ticked};
 
 use answers::Verdict;
 use control::{BusAddress, EndpointAddress};
-use control_pipe::{BUFFER, Moved, Pipe, Source, Told};
+use control_pipe::{BUFFER, Bus, Moved, Source, Told};
 use live::Live;
-use requests::{Effect, Kept, State};
+use requests::{Effect, State};
 
-// What the bus is told. `Write` and `Refused` count the bytes of the packet at the front of the room.
-#[derive(Clone, Copy)]
+/// What the bus is told.
+#[derive(Clone, Copy, Debug, PartialEq, Eq)]
 pub enum Action {
     Nothing,
     Resume,
@@ -26,242 +24,123 @@ pub enum Action {
     Halt(EndpointAddress),
     Unhalt(EndpointAddress),
     Address(BusAddress),
+    /// The bus took the packet at the front of the room, of so many bytes.
     Write(u8),
+    /// The bus did not take the packet at the front of the room, of so many bytes.
     Refused(u8),
 }
 
-// What half an event does: a request that is decided, or an IN-complete.
-#[derive(Clone, Copy)]
+/// What the second half of an event tells the bus.
+#[derive(Clone, Copy, Debug, PartialEq, Eq)]
 pub struct Half {
-    pub live: Live,
     pub act: Action,
     pub told: Told,
 }
 
-pub fn with_pipe(live: Live, pipe: Pipe) -> Live
-    ensures { result ≡ with_pipe pipe live }
-{
-    let mut next = live;
-    next.pipe = pipe;
-    next
-}
-
-pub fn in_state(live: Live, state: State) -> Live
-    ensures { result ≡ in_state state live }
-{
-    let old = live.kept;
-    let kept = Kept {
-        state,
-        wakeup: old.wakeup,
-        powered: old.powered,
-        halts: old.halts,
-    };
-    let mut next = live;
-    next.kept = kept;
-    next
-}
-
-// The pipe moved, and the bus is told of one thing more.
-fn moving(live: Live, m: Moved, act: Action) -> Half
-    ensures { result ≡ moving m act live }
-{
-    let pipe = m.pipe;
-    let told = m.told;
-    Half {
-        live: with_pipe(live, pipe),
-        act,
-        told,
-    }
-}
-
 // A halt of endpoint 0 is a stall of the pipe, any other is kept.
-fn halting(live: Live, e: EndpointAddress, on: bool) -> Live
-    ensures { result ≡ halting e on live }
+fn set_halt(live: &mut Live, e: EndpointAddress, on: bool)
+    ensures { live.new ≡ halting e on live.old }
 {
-    let mut next = live;
     if e.0 % 16 != 0 {
-        let kept = live.kept;
-        next.kept = kept.with_halt(e, on);
-        return next;
+        live.kept.set_halt(e, on);
+    } else if e.0 < 128 {
+        live.pipe.stallout = on;
+    } else {
+        live.pipe.stallin = on;
     }
-    if e.0 < 128 {
-        next.pipe.stallout = on;
-        return next;
-    }
-    next.pipe.stallin = on;
-    next
 }
 
 // With the quirk the address is taken at once, else when the status stage completes.
-fn awaiting(live: Live, address: BusAddress, quirk: bool) -> Live
-    ensures { result ≡ awaiting address quirk live }
-{
-    if quirk {
-        return in_state(live, State::Addressed);
-    }
-    let mut pipe = live.pipe;
-    pipe.pending = address;
-    with_pipe(live, pipe)
-}
-
-fn effected(live: Live, effect: Effect, quirk: bool) -> Live
-    ensures { result ≡ effected effect quirk live }
+fn carry_out(live: &mut Live, effect: Effect, quirk: bool) -> Action
+    ensures live { live.new ≡ effected effect quirk live.old }
+    ensures action { result ≡ action_of effect quirk }
 {
     match effect {
-        Effect::Nothing => live,
+        Effect::Nothing => Action::Nothing,
         Effect::Wakeup(on) => {
-            let mut next = live;
-            next.kept.wakeup = on;
-            next
-        }
-        Effect::Halt(e) => halting(live, e, true),
-        Effect::Unhalt(e) => halting(live, e, false),
-        Effect::Address(address) => awaiting(live, address, quirk),
-        Effect::Turn(state) => in_state(live, state),
-    }
-}
-
-fn action_of(effect: Effect, quirk: bool) -> Action
-    ensures { result ≡ action_of effect quirk }
-{
-    match effect {
-        Effect::Halt(e) => Action::Halt(e),
-        Effect::Unhalt(e) => Action::Unhalt(e),
-        Effect::Address(address) => {
-            if quirk {
-                return Action::Address(address);
-            }
+            live.kept.wakeup = on;
             Action::Nothing
         }
-        Effect::Nothing => Action::Nothing,
-        Effect::Wakeup(_) => Action::Nothing,
-        Effect::Turn(_) => Action::Nothing,
+        Effect::Halt(e) => {
+            set_halt(live, e, true);
+            Action::Halt(e)
+        }
+        Effect::Unhalt(e) => {
+            set_halt(live, e, false);
+            Action::Unhalt(e)
+        }
+        Effect::Address(address) if quirk => {
+            live.kept.state = State::Addressed;
+            Action::Address(address)
+        }
+        Effect::Address(address) => {
+            live.pipe.pending = address;
+            Action::Nothing
+        }
+        Effect::Turn(state) => {
+            live.kept.state = state;
+            Action::Nothing
+        }
     }
 }
 
-// The bytes of the book from a byte on.
-fn rest(book: u32, start: u32) -> usize
-    ensures { result ≡ book - start }
-{
-    if book < start {
-        0
-    } else {
-        (book - start) as usize
-    }
-}
-
-// Bytes of the buffer or of the book set out.
-fn send(
-    live: Live,
-    source: Source,
-    start: u32,
-    n: usize,
-    size: u8,
-    taken: bool,
-    buffer: &[u8; BUFFER],
-    book: &[u8],
-    room: &mut [u8],
-) -> Half
-    ensures { Halved result room.new (turned (accept_in source start n size taken book.now live.pipe buffer.now) NoAction live) room.old }
-{
-    let pipe = live.pipe;
-    let m = pipe.accept_in(source, start, n, size, taken, buffer, book, room);
-    moving(live, m, Action::Nothing)
-}
-
-// An OUT request is accepted: its effect, and the status.
-fn accept(live: Live, effect: Effect, quirk: bool, taken: bool) -> Half
-    ensures { result ≡ half_of (accepted effect quirk taken live []) }
-{
-    let next = effected(live, effect, quirk);
-    let pipe = next.pipe;
-    moving(next, pipe.accept_out(taken), action_of(effect, quirk))
-}
-
-fn stall(live: Live) -> Half
-    ensures { result ≡ half_of (turned (stalled live.pipe []) NoAction live) }
-{
-    let pipe = live.pipe;
-    moving(live, pipe.stalled(), Action::Nothing)
-}
-
-// An answer sets out: a stall, the first packet of the buffer's or the book's bytes, or the status.
+/// An answer sets out: a stall, the first packet of the buffer's or the book's bytes, or the status of an accepted request.
+#[tactic(auto, unfolding(crate::specs::Effects::set_out, common::specs::Bytes::front))]
 pub fn set_out(
-    verdict: Verdict,
-    live: Live,
-    size: u8,
+    live: &mut Live,
+    verdict: Option<Verdict>,
+    bus: &Bus,
     quirk: bool,
-    taken: bool,
     buffer: &[u8; BUFFER],
-    book: &[u8],
     room: &mut [u8],
 ) -> Half
-    ensures { Halved result room.new (set_out verdict size quirk taken book.now live buffer.now) room.old }
+    ensures { Halved result live.new room.new (set_out verdict bus.now.size quirk bus.now.taken bus.now.book.now live.old buffer.now) room.old }
 {
     match verdict {
-        Verdict::Stall => stall(live),
-        Verdict::Bytes(n) => send(live, Source::Buffer, 0, n, size, taken, buffer, book, room),
-        Verdict::Tiles(start) => send(
-            live,
-            Source::Book,
-            start,
-            rest(live.book, start),
-            size,
-            taken,
-            buffer,
-            book,
-            room,
-        ),
-        Verdict::Accept(effect) => accept(live, effect, quirk, taken),
+        None => Half {
+            act: Action::Nothing,
+            told: live.pipe.stall(),
+        },
+        Some(Verdict::Bytes(n)) => Half {
+            act: Action::Nothing,
+            told: live.pipe.accept_in(Source::Buffer, 0, n, bus, buffer, room),
+        },
+        Some(Verdict::Tiles(start)) => {
+            let n = live.book.saturating_sub(start) as usize;
+            Half {
+                act: Action::Nothing,
+                told: live
+                    .pipe
+                    .accept_in(Source::Book, start, n, bus, buffer, room),
+            }
+        }
+        Some(Verdict::Accept(effect)) => {
+            let act = carry_out(live, effect, quirk);
+            Half {
+                act,
+                told: live.pipe.accept_out(bus.taken),
+            }
+        }
     }
 }
 
-// A completed status stage takes the pending address.
-fn addressed(live: Live, m: Moved) -> Half
-    ensures { result ≡ half_of (addressed m.pipe m.told [] [] live) }
+/// An IN-complete of endpoint 0. A status stage that completes takes the pending address.
+#[tactic(auto, unfolding(crate::specs::Effects::ticked))]
+pub fn tick(live: &mut Live, bus: &Bus, quirk: bool, buffer: &[u8; BUFFER], room: &mut [u8]) -> Half
+    ensures { Halved result live.new room.new (ticked bus.now.size quirk bus.now.taken bus.now.book.now live.old buffer.now) room.old }
 {
-    let mut pipe = m.pipe;
-    let address = pipe.pending;
-    let none = BusAddress(0);
-    pipe.pending = none;
-    let told = m.told;
+    let Moved { told, done } = live.pipe.in_complete(bus, buffer, room);
+    let address = live.pipe.pending;
+    if done && !quirk && address.0 != 0 {
+        live.pipe.pending = BusAddress(0);
+        live.kept.state = State::Addressed;
+        return Half {
+            act: Action::Address(address),
+            told,
+        };
+    }
     Half {
-        live: in_state(with_pipe(live, pipe), State::Addressed),
-        act: Action::Address(address),
+        act: Action::Nothing,
         told,
     }
-}
-
-// Whether a completed status stage takes an address.
-fn due(done: bool, quirk: bool, pending: BusAddress) -> bool
-    ensures { result ≡ done && not quirk && not (eqb pending.0 0) }
-{
-    if !done {
-        return false;
-    }
-    if quirk {
-        return false;
-    }
-    pending.0 != 0
-}
-
-// An IN-complete of endpoint 0.
-pub fn tick(
-    live: Live,
-    size: u8,
-    quirk: bool,
-    taken: bool,
-    buffer: &[u8; BUFFER],
-    book: &[u8],
-    room: &mut [u8],
-) -> Half
-    ensures { Halved result room.new (ticked size quirk taken book.now live buffer.now) room.old }
-{
-    let pipe = live.pipe;
-    let m = pipe.in_complete(size, taken, buffer, book, room);
-    let pending = m.pipe.pending;
-    if due(m.done, quirk, pending) {
-        return addressed(live, m);
-    }
-    moving(live, m, Action::Nothing)
 }
