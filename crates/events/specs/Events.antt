@@ -14,7 +14,7 @@ use Rattle.live.specs.Live.{awake}
 use Rattle.effects.specs.declared.Action.{Action}
 use Rattle.effects.specs.declared.Action.TheVariants.{Nothing as NoAction, Resume as TellResume, Suspend as TellSuspend, Reset as TellReset, UnstallOut, UnstallIn, StallOut, StallIn, Halt, Unhalt, Address, Write as TellWrite, Refused as TellRefused}
 use Rattle.effects.specs.declared.Half.{Half}
-use Rattle.effects.specs.Effects.{Second, half_of, with_pipe, in_state, set_out, ticked, rested}
+use Rattle.effects.specs.Effects.{Second, with_pipe, in_state, set_out, ticked, rested}
 use Rattle.events.specs.declared.Write.{Write}
 use Rattle.events.specs.declared.Write.TheVariants.{Taken, Refused}
 use Rattle.events.specs.declared.Arrival.{Arrival}
@@ -73,7 +73,7 @@ abbrev pub plain : Live → List ℕ → Bool → Action → Done
 plain l b resumed act = record { live = l; buffer = b; resumed = resumed; first = Silence; act = act; second = Silence; packet = []; answer = false }
 
 abbrev pub remembering : State → Live → Live
-remembering s l = record { pipe = l.pipe; kept = l.kept; before = s; book = l.book; built = l.built }
+remembering s l = record l { before = s }
 
 -- section 9.1.1.6: the state is remembered
 abbrev pub suspended : Live → Live
@@ -154,16 +154,22 @@ told_by resumed first act second = cond resumed (TellResume ∷ []) [] ++ (liste
 -- ---- what the code promises
 
 abbrev pub handled_of : Done → Handled
-handled_of d = record { live = d.live; resumed = d.resumed; first = d.first; act = d.act; second = d.second; answer = d.answer }
+handled_of d = record { resumed = d.resumed; first = d.first; act = d.act; second = d.second; answer = d.answer }
 
--- of one that may change the buffer too
-pub record Followed (r : Half) (exit_buffer exit_room : List ℕ) (h : Second) (entry : List ℕ) : Type 0 where
-  pub value : r ≡ half_of h
+-- with no packet, and nothing of endpoint 0
+abbrev pub told_plainly : Bool → Action → Handled
+told_plainly resumed act = record { resumed = resumed; first = Silence; act = act; second = Silence; answer = false }
+
+-- what is told, the device, its buffer and the room at exit, and the room at entry: of the second half
+pub record Followed (r : Half) (after : Live) (exit_buffer exit_room : List ℕ) (h : Second) (entry : List ℕ) : Type 0 where
+  pub value : r ≡ record { act = h.act; told = h.told }
+  pub live : after ≡ h.live
   pub buffer : exit_buffer ≡ h.buffer
   pub room : exit_room ≡ front h.packet entry
 
--- of a whole event
-pub record Came (r : Handled) (exit_buffer exit_room : List ℕ) (d : Done) (entry : List ℕ) : Type 0 where
+-- .. and of a whole event
+pub record Came (r : Handled) (after : Live) (exit_buffer exit_room : List ℕ) (d : Done) (entry : List ℕ) : Type 0 where
   pub value : r ≡ handled_of d
+  pub live : after ≡ d.live
   pub buffer : exit_buffer ≡ d.buffer
   pub room : exit_room ≡ front d.packet entry

@@ -1,31 +1,29 @@
-// One event of the bus, on the parts of a device that no refusal stands against: chapter 8's pipe and chapter 9's answers joined.
+//! One event of the bus, on the parts of a device that no refusal stands against: chapter 8's pipe and chapter 9's answers joined.
 #![tactic(auto)]
 
-ghost use Rattle.std.specs.Prelude.{◌≡◌, not, ◌&&◌, []};
+ghost use Rattle.std.specs.Prelude.{◌≡◌, ◌&&◌};
 ghost use Rattle.control_pipe.specs.Stages.{Took};
-ghost use Rattle.live.specs.Live.{awake};
-ghost use Rattle.writer.specs.Descriptors.{parts};
 ghost use Rattle.answers.specs.Answers.{Answered, answer};
-ghost use Rattle.events.specs.Events.{Followed, Came, taken_by, arrived, followed, data_come, plain, handled_of, remembering, suspended, state_after, woken, restarted, dull, happens, handled};
+ghost use Rattle.events.specs.Events.{Followed, Came, taken_by, odd, arrived, followed, data_come, told_plainly, woken, restarted, dull, happens, handled};
 
 use answers::Verdict;
-use control_pipe::{BUFFER, Moved, Pipe, Read, Told};
+use control_pipe::{BUFFER, Bus, Heard, Pipe, Read, Told};
 use effects::{Action, Half};
 use live::Live;
-use plan::Plan;
-use record::{LANGUAGES, STRINGS, TEXT};
+use record::Record;
 use requests::State;
 
-// What the one write of an event will get.
-#[derive(Clone, Copy)]
+/// What the one write of an event will get.
+#[derive(Clone, Copy, Debug, PartialEq, Eq)]
 pub enum Write {
     Taken,
     Refused,
 }
 
-// What arrived: the masks of the endpoints, the one read and the one write. In this order it has ten bytes; eight would be packed
-// into one number and unpacked at every copy.
-#[derive(Clone, Copy)]
+/// What arrived: masks of the endpoints (bit n is endpoint n) with a SETUP, an OUT packet or an IN-complete, the one read and the
+/// one write.
+// In this order it has ten bytes; eight would be packed into one number and unpacked at every copy.
+#[derive(Clone, Copy, Debug, PartialEq, Eq)]
 pub struct Arrival {
     pub setup: u16,
     pub read: Read,
@@ -34,7 +32,8 @@ pub struct Arrival {
     pub write: Write,
 }
 
-#[derive(Clone, Copy)]
+/// An event of the bus.
+#[derive(Clone, Copy, Debug, PartialEq, Eq)]
 pub enum Event {
     Nothing,
     Reset,
@@ -43,142 +42,99 @@ pub enum Event {
     Data(Arrival),
 }
 
-// What an event does. The bus is told, in this order: resume, `first`, `act`, `second`.
-#[derive(Clone, Copy)]
+/// What an event says. The bus is told, in this order: resume, `first`, `act`, `second`. `answer` is true for data alone.
+#[derive(Clone, Copy, Debug, PartialEq, Eq)]
 pub struct Handled {
     pub resumed: bool,
     pub first: Told,
     pub act: Action,
     pub second: Told,
-    pub live: Live,
     pub answer: bool,
 }
 
-fn taken(write: Write) -> bool
-    ensures { result ≡ taken_by write }
-{
-    match write {
-        Write::Taken => true,
-        Write::Refused => false,
-    }
-}
-
 // SETUP goes before OUT.
-fn arrive(pipe: Pipe, a: Arrival, packet: &[u8], buffer: &mut [u8; BUFFER]) -> Moved
-    ensures { Took result buffer.new (arrived a packet.now pipe buffer.old) }
+#[tactic(auto, unfolding(crate::specs::Events::arrived))]
+fn arrive(pipe: &mut Pipe, arrival: &Arrival, packet: &[u8], buffer: &mut [u8; BUFFER]) -> Heard
+    ensures { Took result pipe.new buffer.new (arrived arrival.now packet.now pipe.old buffer.old) }
 {
-    let read = a.read;
-    if a.setup % 2 == 1 {
-        return pipe.setup_come(read, packet, buffer);
+    if arrival.setup % 2 == 1 {
+        pipe.setup_come(arrival.read, packet, buffer)
+    } else if arrival.out % 2 == 1 {
+        pipe.out_come(arrival.read, packet, buffer)
+    } else {
+        Heard::nothing()
     }
-    if a.out % 2 == 1 {
-        return pipe.out_come(read, packet, buffer);
-    }
-    pipe.still()
 }
 
 // The pipe's request is decided, and what it tells is written into the buffer.
-fn judge<'a>(
-    plan: Plan,
-    ids: &'a [u16; LANGUAGES],
-    lens: &'a [u8; STRINGS],
-    units: &'a [u16; TEXT],
-    live: Live,
-    buffer: &mut [u8; BUFFER],
-) -> Verdict
-    ensures { Answered result buffer.new (answer (parts plan ids.now lens.now units.now) live.kept live.pipe live.book) buffer.old }
+#[tactic(auto, unfolding(answers::specs::Answers::answer))]
+fn judge(profile: &Record, live: &Live, buffer: &mut [u8; BUFFER]) -> Option<Verdict>
+    ensures { Answered result buffer.new (answer profile.now live.now.kept live.now.pipe live.now.book) buffer.old }
 {
-    let kept = live.kept;
-    let pipe = live.pipe;
-    let request = pipe.request;
-    let decision = requests::decide(kept, pipe, live.book);
-    answers::write(decision, plan, ids, lens, units, request, buffer)
+    let decision = requests::decide(&live.kept, &live.pipe, live.book)?;
+    answers::write(decision, profile, &live.pipe.request, buffer)
 }
 
-// The second half: a complete request is decided, else an IN-complete is handled.
-fn follow<'a>(
-    plan: Plan,
-    ids: &'a [u16; LANGUAGES],
-    lens: &'a [u8; STRINGS],
-    units: &'a [u16; TEXT],
-    live: Live,
+// A complete request is decided, else an IN-complete is handled.
+#[tactic(auto, using(crate::proofs::Laws::kept), unfolding(crate::specs::Events::followed, common::specs::Bytes::front))]
+fn follow(
+    profile: &Record,
+    live: &mut Live,
     complete: bool,
-    ticks: bool,
-    taken: bool,
+    arrival: &Arrival,
     buffer: &mut [u8; BUFFER],
     book: &[u8],
     room: &mut [u8],
 ) -> Half
-    ensures { Followed result buffer.new room.new (followed (parts plan ids.now lens.now units.now) complete ticks taken book.now live buffer.old) room.old }
+    ensures { Followed result live.new buffer.new room.new (followed profile.now complete (odd arrival.now.done) (taken_by arrival.now.write) book.now live.old buffer.old) room.old }
 {
-    let size = plan.basics.packet;
-    let quirk = plan.basics.quirk;
+    let quirk = profile.plan.basics.quirk;
+    let bus = Bus {
+        size: profile.plan.basics.packet,
+        taken: arrival.write == Write::Taken,
+        book,
+    };
     if complete {
-        let verdict = judge(plan, ids, lens, units, live, buffer);
-        return effects::set_out(verdict, live, size, quirk, taken, buffer, book, room);
-    }
-    if ticks {
-        return effects::tick(live, size, quirk, taken, buffer, book, room);
-    }
-    Half {
-        live,
-        act: Action::Nothing,
-        told: Told::Nothing,
+        let verdict = judge(profile, live, buffer);
+        effects::set_out(live, verdict, &bus, quirk, buffer, room)
+    } else if arrival.done % 2 == 1 {
+        effects::tick(live, &bus, quirk, buffer, room)
+    } else {
+        Half {
+            act: Action::Nothing,
+            told: Told::Nothing,
+        }
     }
 }
 
-// Data: what arrived, and what follows.
-fn data_come<'a>(
-    plan: Plan,
-    ids: &'a [u16; LANGUAGES],
-    lens: &'a [u8; STRINGS],
-    units: &'a [u16; TEXT],
-    live: Live,
+#[tactic(auto, unfolding(crate::specs::Events::data_come))]
+fn data_come(
+    profile: &Record,
+    live: &mut Live,
     resumed: bool,
-    a: Arrival,
+    arrival: &Arrival,
     packet: &[u8],
     buffer: &mut [u8; BUFFER],
     book: &[u8],
     room: &mut [u8],
 ) -> Handled
-    ensures { Came result buffer.new room.new (data_come (parts plan ids.now lens.now units.now) resumed a packet.now book.now live buffer.old) room.old }
+    ensures { Came result live.new buffer.new room.new (data_come profile.now resumed arrival.now packet.now book.now live.old buffer.old) room.old }
 {
-    let pipe = live.pipe;
-    let write = a.write;
-    let m = arrive(pipe, a, packet, buffer);
-    let moved = m.pipe;
-    let first = m.told;
-    let h = follow(
-        plan,
-        ids,
-        lens,
-        units,
-        effects::with_pipe(live, moved),
-        m.done,
-        a.done % 2 == 1,
-        taken(write),
-        buffer,
-        book,
-        room,
-    );
-    let next = h.live;
-    let act = h.act;
-    let second = h.told;
+    let heard = arrive(&mut live.pipe, arrival, packet, buffer);
+    let half = follow(profile, live, heard.complete, arrival, buffer, book, room);
     Handled {
-        live: next,
         resumed,
-        first,
-        act,
-        second,
+        first: heard.told,
+        act: half.act,
+        second: half.told,
         answer: true,
     }
 }
 
-fn plain(live: Live, resumed: bool, act: Action) -> Handled
-    ensures { result ≡ handled_of (plain live [] resumed act) }
+fn told_plainly(resumed: bool, act: Action) -> Handled
+    ensures { result ≡ told_plainly resumed act }
 {
     Handled {
-        live,
         resumed,
         first: Told::Nothing,
         act,
@@ -187,153 +143,64 @@ fn plain(live: Live, resumed: bool, act: Action) -> Handled
     }
 }
 
-fn remembering(live: Live, before: State) -> Live
-    ensures { result ≡ remembering before live }
+// The state from before a suspend is restored, and none is remembered from then on.
+fn wake(live: &mut Live)
+    ensures { live.new ≡ woken live.old }
 {
-    let pipe = live.pipe;
-    let kept = live.kept;
-    Live {
-        pipe,
-        kept,
-        before,
-        book: live.book,
-        built: live.built,
+    if live.kept.state == State::Suspend {
+        live.kept.state = live.before;
     }
-}
-
-fn suspended(live: Live) -> Live
-    ensures { result ≡ suspended live }
-{
-    let kept = live.kept;
-    let state = kept.state;
-    remembering(effects::in_state(live, State::Suspend), state)
-}
-
-fn state_after(state: State, before: State) -> State
-    ensures { result ≡ state_after state before }
-{
-    match state {
-        State::Suspend => before,
-        State::Default => State::Default,
-        State::Addressed => State::Addressed,
-        State::Configured => State::Configured,
-    }
-}
-
-// What is remembered is restored, and nothing is remembered then.
-fn woken(live: Live) -> Live
-    ensures { result ≡ woken live }
-{
-    let kept = live.kept;
-    let state = kept.state;
-    let before = live.before;
-    let next = effects::in_state(live, state_after(state, before));
-    remembering(next, State::Default)
+    live.before = State::Default;
 }
 
 // A reset keeps the self-powered flag alone.
-fn restarted(live: Live) -> Live
-    ensures { result ≡ restarted live }
+fn restart(live: &mut Live)
+    ensures { live.new ≡ restarted live.old }
 {
-    let mut next = Live::fresh(live.book, live.built);
-    next.kept.powered = live.kept.powered;
-    next
+    let powered = live.kept.powered;
+    *live = Live::fresh(live.book, live.built);
+    live.kept.powered = powered;
 }
 
-// What does nothing in Suspend.
-fn dull(event: Event) -> bool
-    ensures { result ≡ dull event }
+fn ignored(asleep: bool, event: &Event) -> bool
+    ensures { result ≡ asleep && dull event.now }
 {
-    match event {
-        Event::Nothing => true,
-        Event::Suspend => true,
-        Event::Reset => false,
-        Event::Resume => false,
-        Event::Data(_) => false,
-    }
+    asleep && matches!(event, Event::Nothing | Event::Suspend)
 }
 
-fn asleep(state: State) -> bool
-    ensures { result ≡ not (awake state) }
-{
-    match state {
-        State::Suspend => true,
-        State::Default => false,
-        State::Addressed => false,
-        State::Configured => false,
-    }
-}
-
-fn ignored(state: State, event: Event) -> bool
-    ensures { result ≡ not (awake state) && dull event }
-{
-    if asleep(state) {
-        return dull(event);
-    }
-    false
-}
-
-// An event of a device that is awake.
-fn happen<'a>(
+/// One event. In Suspend, `Nothing` and `Suspend` do nothing; any other event first resumes and restores the state
+/// (USB 2.0 section 9.1.1.6).
+#[tactic(auto, unfolding(crate::specs::Events::handled, crate::specs::Events::happens, common::specs::Bytes::front))]
+pub fn handle(
     event: Event,
-    plan: Plan,
-    ids: &'a [u16; LANGUAGES],
-    lens: &'a [u8; STRINGS],
-    units: &'a [u16; TEXT],
-    live: Live,
-    resumed: bool,
+    profile: &Record,
+    live: &mut Live,
     packet: &[u8],
     buffer: &mut [u8; BUFFER],
     book: &[u8],
     room: &mut [u8],
 ) -> Handled
-    ensures { Came result buffer.new room.new (happens event (parts plan ids.now lens.now units.now) resumed packet.now book.now live buffer.old) room.old }
+    ensures { Came result live.new buffer.new room.new (handled event profile.now packet.now book.now live.old buffer.old) room.old }
 {
+    let asleep = live.kept.state == State::Suspend;
+    if ignored(asleep, &event) {
+        return told_plainly(false, Action::Nothing);
+    }
+    wake(live);
     match event {
-        Event::Nothing => plain(live, resumed, Action::Nothing),
+        Event::Nothing | Event::Resume => told_plainly(asleep, Action::Nothing),
         Event::Reset => {
-            common::clear(buffer);
-            plain(restarted(live), resumed, Action::Reset)
+            buffer.fill(0);
+            restart(live);
+            told_plainly(asleep, Action::Reset)
         }
-        Event::Suspend => plain(suspended(live), resumed, Action::Suspend),
-        Event::Resume => plain(live, resumed, Action::Nothing),
-        Event::Data(a) => data_come(
-            plan, ids, lens, units, live, resumed, a, packet, buffer, book, room,
+        Event::Suspend => {
+            live.before = live.kept.state;
+            live.kept.state = State::Suspend;
+            told_plainly(asleep, Action::Suspend)
+        }
+        Event::Data(arrival) => data_come(
+            profile, live, asleep, &arrival, packet, buffer, book, room,
         ),
     }
-}
-
-// One event. In Suspend, Nothing and Suspend do nothing; any other event first resumes and restores the state.
-pub fn handle<'a>(
-    event: Event,
-    plan: Plan,
-    ids: &'a [u16; LANGUAGES],
-    lens: &'a [u8; STRINGS],
-    units: &'a [u16; TEXT],
-    live: Live,
-    packet: &[u8],
-    buffer: &mut [u8; BUFFER],
-    book: &[u8],
-    room: &mut [u8],
-) -> Handled
-    ensures { Came result buffer.new room.new (handled event (parts plan ids.now lens.now units.now) packet.now book.now live buffer.old) room.old }
-{
-    let kept = live.kept;
-    let state = kept.state;
-    if ignored(state, event) {
-        return plain(live, false, Action::Nothing);
-    }
-    happen(
-        event,
-        plan,
-        ids,
-        lens,
-        units,
-        woken(live),
-        asleep(state),
-        packet,
-        buffer,
-        book,
-        room,
-    )
 }
