@@ -1,4 +1,4 @@
-// What a step tells the bus, in five slots.
+//! What a step tells the bus, in five slots.
 #![tactic(auto)]
 
 ghost use Rattle.std.specs.Prelude.{◌≡◌, [], ◌++◌};
@@ -8,8 +8,9 @@ ghost use Rattle.actions.specs.Actions.{consed, packed, laid};
 use control_pipe::Told;
 use effects::Action;
 
-// In order; `Nothing` from the first free slot on.
-#[derive(Clone, Copy)]
+/// At most five actions, in order; `Nothing` from the first free slot on.
+// Five fields and no array: `packed`, `slots` and the theorems on five actions speak of them.
+#[derive(Clone, Copy, Debug, PartialEq, Eq)]
 pub struct Actions {
     pub first: Action,
     pub second: Action,
@@ -19,6 +20,7 @@ pub struct Actions {
 }
 
 impl Actions {
+    /// No action.
     pub fn none() -> Actions
         ensures { result ≡ packed [] }
     {
@@ -35,16 +37,12 @@ impl Actions {
     fn after(self, action: Action) -> Actions
         ensures { result ≡ consed action self }
     {
-        let second = self.first;
-        let third = self.second;
-        let fourth = self.third;
-        let fifth = self.fourth;
         Actions {
             first: action,
-            second,
-            third,
-            fourth,
-            fifth,
+            second: self.first,
+            third: self.second,
+            fourth: self.third,
+            fifth: self.fourth,
         }
     }
 
@@ -79,7 +77,8 @@ impl Actions {
         }
     }
 
-    // What an event tells: resume, then the SETUP's or OUT's, then one action, then the packet's or the stall's.
+    /// What an event tells: a resume, then what the SETUP or the OUT packet tells, then one action, then what the packet or the stall
+    /// tells.
     pub fn tell(resumed: bool, first: Told, act: Action, second: Told) -> Actions
         ensures { result ≡ packed (told_by resumed first act second) }
     {

@@ -162,6 +162,7 @@ fn restart(live: &mut Live)
     live.kept.powered = powered;
 }
 
+// A function of its own: with the test written in `handle` the proof did not close.
 fn ignored(asleep: bool, event: &Event) -> bool
     ensures { result ≡ asleep && dull event.now }
 {
