@@ -1,62 +1,50 @@
 -- Laws of the device's calls that the proofs cite. Assumes nothing.
-use Prim.Native.Nat.{ℕ, ◌+◌, ◌%◌, ◌≤◌}
+use Prim.Native.Nat.{ℕ, ◌+◌, ◌≤◌}
 use mathlib.Core.Bool.{Bool, true, false, cond, ◌&&◌}
-use mathlib.Core.Path.{◌≡◌, refl, ap, ap₂, ◌∙◌}
+use mathlib.Core.Path.{◌≡◌, refl, ◌∙◌}
 use mathlib.Core.List.{List}
 use native.Mathlib.Omega.{arith}
-use borrow.Author.Tests.{le-leb, leb-true, eqb-true, eqb-false}
+use borrow.Author.Tests.{le-leb, leb-true, eqb-true}
 use lib.Dec.{eqb, leb}
 use lib.ListN.{length, take}
+use Rattle.std.specs.Prelude.{Ok}
 use Rattle.common.specs.Bytes.{piece, stored, front}
-use Rattle.common.proofs.Refusals.{Named}
+use Rattle.common.proofs.Refusals.{Named, passed, refused}
 use Rattle.common.proofs.Laws.{cond-elim, and_left, and_right, stored-front}
 use Rattle.record.specs.declared.Record.{Record}
 use Rattle.limits.specs.Limits.{lowest}
 use Rattle.limits.proofs.Good.{lowest-number}
 use Rattle.control_pipe.specs.Sizes.{buffer_room}
-use Rattle.requests.specs.Sizes.{tile_size}
-use Rattle.live.proofs.Laws.{unfit-named}
 use Rattle.live.specs.Live.{book_fine, coming_fine, reply_fine, pipe_fine, state_fine, live_fine, unfit, step_refusal}
-use Rattle.events.specs.declared.Event.{Event}
-use Rattle.events.specs.declared.Handled.{Handled}
-use Rattle.events.specs.Events.{Done, handled_of}
 use Rattle.device.specs.declared.Device.{Device}
-use Rattle.device.specs.declared.Polled.{Polled}
-use Rattle.device.specs.declared.Stepped.{Stepped}
-use Rattle.device.specs.Device.{build_refusal, refused_by, polled_of, stepped_to, unfit_device, data_ready, data_refusal, data_refused}
+use Rattle.device.specs.Device.{build_refusal, refused_by, unfit_device, data_refusal, data_refused, handed_room, Handing}
 
-pub build-named : (r : Record) (book : ℕ) → Named (build_refusal r book)
+-- what a test tells of its number
+pub ruleset tests = (passed, refused)
+
+-- 0 names no refusal; of a number that is not 0
+abbrev Numbered : ℕ → Type 0
+Numbered n = (n ≡ 0 → ⊥) → Named n
+
+pub build-named : (r : Record) (book : ℕ) → Numbered (build_refusal r book)
 unfolding build_refusal
 build-named r book =
-    cond-elim Named (eqb (lowest r.plan r.ids r.lens) 0) _ _ (λ e. cond-elim Named (book_fine book) 0 4 (λ e. refl) (λ e. refl)) (λ e. lowest-number r.plan r.ids r.lens)
+    cond-elim Numbered (eqb (lowest r) 0) _ _
+    (λ e. cond-elim Numbered (book_fine book) 0 4 (λ e z. absurd (z refl)) (λ e z. refl))
+    (λ e. lowest-number r)
 
--- a book that is built on is not too long
-pub built-small : (r : Record) (book : ℕ) → build_refusal r book ≡ 0 → book ≤ 65536
-unfolding build_refusal book_fine
-built-small r book e = at (eqb (lowest r.plan r.ids r.lens) 0) refl (book_fine book) refl
-  where
-    at : (t : Bool) → eqb (lowest r.plan r.ids r.lens) 0 ≡ t → (u : Bool) → book_fine book ≡ u → book ≤ 65536
-    at true z true b = leb-true book 65536 (and_right (eqb (book % tile_size) 0) (leb book 65536) b)
-    at true z false b = absurd (let x : ◌≡◌ {A = ℕ} 4 0 = rw (z, b) at e in omega (arith, x))
-    at false z u b = absurd (eqb-false (lowest r.plan r.ids r.lens) 0 z (rw z at e))
+pub fit-named : (d : Device) → Numbered (unfit_device d)
+unfolding unfit
+fit-named d = cond-elim Numbered (live_fine d.live && eqb (lowest d.profile) 0) 0 9 (λ e z. absurd (z refl)) (λ e z. refl)
 
-pub fit-named : (d : Device) → Named (unfit_device d)
-fit-named d = unfit-named d.profile.plan d.profile.ids d.profile.lens d.live
-
-pub step-named : (d : Device) (book room : List ℕ) → Named (refused_by d book room)
+pub step-named : (d : Device) (book room : List ℕ) → Numbered (refused_by d book room)
 unfolding step_refusal
 step-named d book room =
-    cond-elim Named (eqb (unfit_device d) 0) _ _
-    (λ e. cond-elim Named (eqb (length book) d.live.book) _ _ (λ e. cond-elim Named (leb d.profile.plan.basics.packet (length room)) 0 6 (λ e. refl) (λ e. refl)) (λ e. refl))
-    (λ e. refl)
-
-pub data-named : (d : Device) (room : ℕ) → Named (data_refused d room)
-unfolding data_refusal
-data-named d room =
-    let c = d.live.pipe.coming in
-    cond-elim Named (eqb (unfit_device d) 0) _ _
-    (λ e. cond-elim Named (data_ready c) _ _ (λ e. cond-elim Named (leb c.awaited room) 0 8 (λ e. refl) (λ e. refl)) (λ e. refl))
-    (λ e. fit-named d)
+    cond-elim Numbered (eqb (unfit_device d) 0) _ 9
+    (λ e. cond-elim Numbered (eqb (length book) d.live.book) _ 5
+    (λ e. cond-elim Numbered (leb d.profile.plan.basics.packet (length room)) 0 6 (λ e z. absurd (z refl)) (λ e z. refl))
+    (λ e z. refl))
+    (λ e z. refl)
 
 pub data-fit : (d : Device) (room : ℕ) → data_refused d room ≡ 0 → unfit_device d ≡ 0
 unfolding data_refusal
@@ -66,21 +54,13 @@ data-fit d room e = at (eqb (unfit_device d) 0) refl
     at true z = eqb-true (unfit_device d) 0 z
     at false z = rw z at e
 
--- a step, from what the calls ensure
-pub step-done : {h : Handled} {b : List ℕ} {p : Polled} (d : Device) (e : Event) (x : Done) → h ≡ handled_of x → b ≡ x.buffer → p ≡ polled_of h e
-    → ◌≡◌ {A = Stepped} (record { device = record { profile = d.profile; live = h.live; buffer = b }; polled = p }) (stepped_to d e x)
-step-done {h} {b} d e x f g k =
-    ap (λ (y : Polled). record { device = record { profile = d.profile; live = h.live; buffer = b }; polled = y }) k
-    ∙ ap₂ {C = Stepped} (λ (y : Handled) (z : List ℕ). record { device = record { profile = d.profile; live = y.live; buffer = z }; polled = polled_of y e }) f g
-
 -- what is handed out of a device that no number refuses is in the buffer
 pub awaited-fits : (d : Device) → unfit_device d ≡ 0 → d.live.pipe.coming.awaited ≤ buffer_room
-unfolding unfit live_fine pipe_fine coming_fine
+unfolding unfit live_fine
 awaited-fits d e =
     let l = d.live in
     let p = l.pipe in
-    let good = lowest d.profile.plan d.profile.ids d.profile.lens in
-    let f : live_fine l ≡ true = by (live_fine l) (eqb good 0) e in
+    let f : live_fine l ≡ true = by (live_fine l) (eqb (lowest d.profile) 0) e in
     let a = and_right (l.built && book_fine l.book && state_fine l.kept.state l.before) (pipe_fine p l.book) f in
     let b = and_left (coming_fine p.coming && reply_fine p.reply l.book) (leb p.pending.0 127) a in
     let c = and_left (coming_fine p.coming) (reply_fine p.reply l.book) b in
@@ -95,3 +75,13 @@ unfolding piece
 data-placed {n} b room l h e =
     let k : 0 + n ≤ length b = omega (arith, l, h) in
     e ∙ (stored-front room b 0 n ∙ rw (le-leb (0 + n) (length b) k) refl)
+
+-- data that is handed out, from what the tests tell
+pub data-handed : {exit : List ℕ} (d : Device) (room : List ℕ) → length d.buffer ≡ buffer_room → eqb (unfit_device d) 0 ≡ true → eqb d.live.pipe.coming.awaited 0 ≡ false → leb d.live.pipe.coming.awaited d.live.pipe.coming.held ≡ true
+    → leb d.live.pipe.coming.awaited (length room) ≡ true → exit ≡ stored room 0 d.buffer 0 d.live.pipe.coming.awaited → Handing (Ok d.live.pipe.coming.awaited) exit d room
+unfolding data_refusal handed_room
+data-handed d room l f a h m e =
+    record {
+      value = rw (f, a, h, m) refl;
+      room = rw (f, a, h, m) (data-placed d.buffer room l (awaited-fits d (eqb-true (unfit_device d) 0 f)) e);
+    }

@@ -1,9 +1,9 @@
 -- Document 01, module 4 and "When the mast says no": building, stepping, asking for data, the self-powered flag; what each answers
 -- and what it leaves in a lent room.
-use Rattle.std.specs.Prelude.{ℕ, ◌-◌, Bool, true, false, cond, not, ◌&&◌, List, [], ◌≡◌, eqb, leb, length, take}
+use Rattle.std.specs.Prelude.{ℕ, ◌-◌, Bool, true, false, cond, not, ◌&&◌, List, ◌≡◌, eqb, leb, length, take, Result, Ok, Err, ⊤}
 use Rattle.std.specs.Int.Bits.{bit_and}
 use Rattle.common.specs.Bytes.{front}
-use Rattle.common.specs.Refusals.{refusal}
+use Rattle.common.specs.Refusals.{refusal, unless}
 use Rattle.common.specs.declared.Refusal.{Refusal}
 use Rattle.record.specs.declared.Record.{Record}
 use Rattle.limits.specs.Limits.{lowest}
@@ -19,8 +19,7 @@ use Rattle.device.specs.declared.Device.{Device}
 use Rattle.device.specs.declared.Masks.{Masks}
 use Rattle.device.specs.declared.Polled.{Polled}
 use Rattle.device.specs.declared.Stepped.{Stepped}
-use Rattle.device.specs.declared.Built.{Built}
-use Rattle.device.specs.declared.Handed.{Handed}
+use Rattle.device.specs.declared.Unbuilt.{Unbuilt}
 
 -- ---- building
 
@@ -29,13 +28,17 @@ fresh r book built = record { profile = r; live = fresh_live book built; buffer 
 
 -- 1 to 3 of the record, then 4
 unfoldable pub build_refusal : Record → ℕ → ℕ
-build_refusal r book = cond (eqb (lowest r.plan r.ids r.lens) 0) (cond (book_fine book) 0 4) (lowest r.plan r.ids r.lens)
+build_refusal r book = cond (eqb (lowest r) 0) (cond (book_fine book) 0 4) (lowest r)
 
--- a device, or an unbuilt one
-unfoldable pub build_of : Record → ℕ → Built
+-- the device that is made: built, or unbuilt where a number refuses it
+unfoldable pub made : Record → ℕ → Device
+made r book = cond (eqb (build_refusal r book) 0) (fresh r book true) (fresh r 0 false)
+
+-- a device, or why there is none, with the unbuilt one
+unfoldable pub build_of : Record → ℕ → Result Device Unbuilt
 build_of r book =
     let n = build_refusal r book in
-    cond (eqb n 0) (record { device = fresh r book true; refusal = refusal 0 }) (record { device = fresh r 0 false; refusal = refusal n })
+    cond (eqb n 0) (Ok (made r book)) (Err (record { device = made r book; refusal = refusal n }))
 
 -- ---- a step
 
@@ -43,7 +46,7 @@ build_of r book =
 abbrev pub no_masks : Masks
 no_masks = record { setup = 0; out = 0; done = 0 }
 
-unfoldable pub masks_of : Event → Masks
+abbrev pub masks_of : Event → Masks
 masks_of Nothing = no_masks
 masks_of Reset = no_masks
 masks_of Suspend = no_masks
@@ -51,26 +54,23 @@ masks_of Resume = no_masks
 masks_of (Data a) = record { setup = bit_and a.setup 65534; out = bit_and (bit_and a.out (65535 - a.setup)) 65534; done = bit_and a.done 65534 }
 
 abbrev pub polled_of : Handled → Event → Polled
-polled_of h e = record { refusal = refusal 0; answer = h.answer; masks = masks_of e; actions = packed (told_by h.resumed h.first h.act h.second) }
-
-abbrev pub refused_poll : Refusal → Polled
-refused_poll why = record { refusal = why; answer = false; masks = no_masks; actions = packed [] }
+polled_of h e = record { answer = h.answer; masks = masks_of e; actions = packed (told_by h.resumed h.first h.act h.second) }
 
 -- which number refuses a step: 9, 5, 6 or 0
 abbrev pub refused_by : Device → List ℕ → List ℕ → ℕ
-refused_by d book room = step_refusal d.profile.plan d.profile.ids d.profile.lens d.live (length book) (length room)
+refused_by d book room = step_refusal d.profile d.live (length book) (length room)
 
 -- what the event does to a device that no number refuses
 abbrev pub done : Device → List ℕ → Event → List ℕ → Done
 done d book e s = handled e d.profile s book d.live d.buffer
 
 abbrev pub stepped_to : Device → Event → Done → Stepped
-stepped_to d e x = record { device = record { profile = d.profile; live = x.live; buffer = x.buffer }; polled = polled_of (handled_of x) e }
+stepped_to d e x = record { device = record d { live = x.live; buffer = x.buffer }; said = Ok (polled_of (handled_of x) e) }
 
 unfoldable pub step_of : Device → List ℕ → Event → List ℕ → List ℕ → Stepped
 step_of d book e s room =
     let n = refused_by d book room in
-    cond (eqb n 0) (stepped_to d e (done d book e s)) (record { device = d; polled = refused_poll (refusal n) })
+    cond (eqb n 0) (stepped_to d e (done d book e s)) (record { device = d; said = Err (refusal n) })
 
 -- the packet at the front of the room, nothing behind it changed; a refused step changes no byte
 unfoldable pub room_of : Device → List ℕ → Event → List ℕ → List ℕ → List ℕ
@@ -83,7 +83,7 @@ pub record Stepping (r : Stepped) (exit : List ℕ) (d : Device) (book : List �
 -- ---- the OUT data
 
 abbrev pub unfit_device : Device → ℕ
-unfit_device d = unfit d.profile.plan d.profile.ids d.profile.lens d.live
+unfit_device d = unfit d.profile d.live
 
 -- an OUT data stage is complete: the bytes held have reached wLength
 abbrev pub data_ready : Coming → Bool
@@ -100,35 +100,25 @@ data_refusal fit c room = cond (eqb fit 0) (cond (data_ready c) (cond (leb c.awa
 abbrev pub data_refused : Device → ℕ → ℕ
 data_refused d room = data_refusal (unfit_device d) d.live.pipe.coming room
 
-unfoldable pub handed_of : Device → ℕ → Handed
-handed_of d room =
-    let n = data_refused d room in
-    cond (eqb n 0) (record { refusal = refusal 0; count = d.live.pipe.coming.awaited }) (record { refusal = refusal n; count = 0 })
+abbrev pub handed_of : Device → ℕ → Result ℕ Refusal
+handed_of d room = unless (data_refused d room) d.live.pipe.coming.awaited
 
 unfoldable pub handed_room : Device → List ℕ → List ℕ
 handed_room d room = cond (eqb (data_refused d (length room)) 0) (front (data_of d) room) room
 
-pub record Handing (r : Handed) (exit : List ℕ) (d : Device) (entry : List ℕ) : Type 0 where
+pub record Handing (r : Result ℕ Refusal) (exit : List ℕ) (d : Device) (entry : List ℕ) : Type 0 where
   pub value : r ≡ handed_of d (length entry)
   pub room : exit ≡ handed_room d entry
 
 -- ---- the self-powered flag
 
 abbrev pub with_powered : Bool → Device → Device
-with_powered on d =
-    record {
-      profile = d.profile;
-      live = record {
-        pipe = d.live.pipe;
-        kept = record { state = d.live.kept.state; wakeup = d.live.kept.wakeup; powered = on; halts = d.live.kept.halts };
-        before = d.live.before;
-        book = d.live.book;
-        built = d.live.built;
-      };
-      buffer = d.buffer;
-    }
+with_powered on d = record d { live = record d.live { kept = record d.live.kept { powered = on } } }
 
-unfoldable pub powered_of : Device → Bool → Built
-powered_of d on =
-    let n = unfit_device d in
-    cond (eqb n 0) (record { device = with_powered on d; refusal = refusal 0 }) (record { device = d; refusal = refusal n })
+-- unchanged where it is refused
+unfoldable pub powered_of : Device → Bool → Device
+powered_of d on = cond (eqb (unfit_device d) 0) (with_powered on d) d
+
+pub record Setting (r : Result ⊤ Refusal) (exit : Device) (d : Device) (on : Bool) : Type 0 where
+  pub value : r ≡ unless (unfit_device d) tt
+  pub device : exit ≡ powered_of d on

@@ -1,128 +1,106 @@
-// The mast's device: built from a record and the length of a book, then stepped through the events of the bus.
-// Any call gets an answer. A refused call says its number and changes nothing.
+//! The mast's device: built from a record and the length of a book, then stepped through the events of the bus.
+//!
+//! Any call gets an answer. A refused call says its number and changes nothing.
 #![tactic(auto)]
 
 ghost use Rattle.std.specs.Prelude.{◌≡◌};
-ghost use Rattle.common.specs.Refusals.{number_of, refusal};
-ghost use Rattle.device.specs.Device.{Stepping, Handing, fresh, build_refusal, build_of, no_masks, masks_of, polled_of, refused_poll, unfit_device, data_refusal, powered_of};
+ghost use Rattle.common.specs.Refusals.{unless};
+ghost use Rattle.device.specs.Device.{Stepping, Handing, Setting, fresh, build_refusal, build_of, no_masks, masks_of, polled_of};
 
 use actions::Actions;
 use common::Refusal;
-use control_pipe::{BUFFER, Coming};
+use control_pipe::BUFFER;
 use events::{Event, Handled};
 use live::Live;
 use record::Record;
 
-// Everything that a device is.
-#[derive(Clone, Copy)]
+/// Everything that a device is. Any value is one; a call on a state that no step leaves is refused with 9.
+#[derive(Clone, Copy, Debug, PartialEq, Eq)]
 pub struct Device {
     pub profile: Record,
     pub live: Live,
     pub buffer: [u8; BUFFER],
 }
 
-// What came for endpoints 1 to 15: a SETUP, OUT without a SETUP, an IN-complete. Bit n is endpoint n, bit 0 is clear.
-#[derive(Clone, Copy)]
+/// What came for endpoints 1 to 15: a SETUP, an OUT packet without a SETUP, an IN-complete. Bit n is endpoint n, bit 0 is clear.
+#[derive(Clone, Copy, Debug, PartialEq, Eq)]
 pub struct Masks {
     pub setup: u16,
     pub out: u16,
     pub done: u16,
 }
 
-// What a step says beside the device. The answer is true for Data alone.
-#[derive(Clone, Copy)]
+/// What a step that no number refuses says. `answer` is true for data alone.
+#[derive(Clone, Copy, Debug, PartialEq, Eq)]
 pub struct Polled {
-    pub refusal: Refusal,
     pub answer: bool,
     pub masks: Masks,
     pub actions: Actions,
 }
 
-#[derive(Clone, Copy)]
+/// The device after a step, and what the step says. A refused step leaves the device as it was.
+#[derive(Clone, Copy, Debug, PartialEq, Eq)]
 pub struct Stepped {
     pub device: Device,
-    pub polled: Polled,
+    pub said: Result<Polled, Refusal>,
 }
 
-// A device, or why there is none that can be used.
-#[derive(Clone, Copy)]
-pub struct Built {
+/// Why there is no device, and the unbuilt one, which every call refuses with 9.
+#[derive(Clone, Copy, Debug, PartialEq, Eq)]
+pub struct Unbuilt {
     pub device: Device,
     pub refusal: Refusal,
 }
 
-// How many bytes of OUT data stand at the front of the room, or why none do.
-#[derive(Clone, Copy)]
-pub struct Handed {
-    pub refusal: Refusal,
-    pub count: usize,
-}
+// All endpoints but 0.
+const OTHERS: u16 = 0xfffe;
 
-fn reported(event: Event) -> Masks
-    ensures { result ≡ masks_of event }
-{
-    match event {
-        Event::Data(a) => Masks {
-            setup: a.setup & 0xfffe,
-            out: a.out & (0xffff - a.setup) & 0xfffe,
-            done: a.done & 0xfffe,
-        },
-        Event::Nothing => no_masks(),
-        Event::Reset => no_masks(),
-        Event::Suspend => no_masks(),
-        Event::Resume => no_masks(),
+impl Masks {
+    fn none() -> Masks
+        ensures { result ≡ no_masks }
+    {
+        Masks {
+            setup: 0,
+            out: 0,
+            done: 0,
+        }
+    }
+
+    fn of(event: &Event) -> Masks
+        ensures { result ≡ masks_of event.now }
+    {
+        match event {
+            Event::Data(a) => Masks {
+                setup: a.setup & OTHERS,
+                out: a.out & !a.setup & OTHERS,
+                done: a.done & OTHERS,
+            },
+            Event::Nothing | Event::Reset | Event::Suspend | Event::Resume => Masks::none(),
+        }
     }
 }
 
-fn no_masks() -> Masks
-    ensures { result ≡ no_masks }
+/// What a step says of an event that was handled.
+pub fn said(h: &Handled, event: &Event) -> Polled
+    ensures { result ≡ polled_of h.now event.now }
 {
-    Masks {
-        setup: 0,
-        out: 0,
-        done: 0,
-    }
-}
-
-// What a step says of an event that was handled.
-pub fn said(h: Handled, event: Event) -> Polled
-    ensures { result ≡ polled_of h event }
-{
-    let first = h.first;
-    let act = h.act;
-    let second = h.second;
     Polled {
-        refusal: Refusal::None,
         answer: h.answer,
-        masks: reported(event),
-        actions: Actions::tell(h.resumed, first, act, second),
+        masks: Masks::of(event),
+        actions: Actions::tell(h.resumed, h.first, h.act, h.second),
     }
 }
 
-fn refused(why: Refusal) -> Polled
-    ensures { result ≡ refused_poll why }
+// The length of the book, unless a number refuses: lowest first, 1 to 3 of the record, 4 of the length.
+#[tactic(auto, using(crate::proofs::Laws::tests), unfolding(crate::specs::Device::build_refusal, live::specs::Live::book_fine))]
+fn book_length(profile: &Record, book: usize) -> Result<u32, Refusal>
+    ensures { result ≡ unless (build_refusal profile.now book) book }
 {
-    Polled {
-        refusal: why,
-        answer: false,
-        masks: no_masks(),
-        actions: Actions::none(),
-    }
-}
-
-// Lowest number first: 1 to 3 of the record, 4 of the book's length.
-fn building(profile: Record, book: usize) -> Refusal
-    ensures { result ≡ refusal (build_refusal profile book) }
-{
-    let plan = profile.plan;
-    let why = limits::broken(plan, &profile.ids, &profile.lens);
-    if why.number() != 0 {
-        return why;
-    }
+    limits::check(profile)?;
     if !live::book_fine(book) {
-        return Refusal::BookLength;
+        return Err(Refusal::BookLength);
     }
-    Refusal::None
+    Ok(book as u32)
 }
 
 impl Device {
@@ -132,133 +110,94 @@ impl Device {
         Device {
             profile,
             live: Live::fresh(book, built),
-            buffer: [0u8; BUFFER],
+            buffer: [0; BUFFER],
         }
     }
 
-    // A device of a record and of a book of so many bytes; refused, one that is unbuilt.
-    pub fn build(profile: Record, book: usize) -> Built
+    /// A device of a record and of a tile book of so many bytes.
+    ///
+    /// # Errors
+    ///
+    /// 1 to 3 where the record breaks a limit, 4 where no book is so long.
+    #[tactic(auto, using(crate::proofs::Laws::tests), unfolding(crate::specs::Device::build_of, crate::specs::Device::made, crate::specs::Device::build_refusal))]
+    pub fn build(profile: Record, book: usize) -> Result<Device, Unbuilt>
         ensures { result ≡ build_of profile book }
     {
-        let why = building(profile, book);
-        if why.number() != 0 {
-            return Built {
+        match book_length(&profile, book) {
+            Ok(length) => Ok(Device::fresh(profile, length, true)),
+            Err(refusal) => Err(Unbuilt {
                 device: Device::fresh(profile, 0, false),
-                refusal: why,
-            };
-        }
-        Built {
-            device: Device::fresh(profile, book as u32, true),
-            refusal: Refusal::None,
+                refusal,
+            }),
         }
     }
 
-    // One event of the bus, with the book and the packet that it brings and a room for the packet that it sends.
+    /// One event of the bus, with the tile book and the packet that it brings and a room for the packet that it sends.
+    ///
+    /// # Errors
+    ///
+    /// 9 where the device's state is none that a step leaves, 5 where the book is not as long as at building, 6 where the room is
+    /// shorter than a packet. Nothing is changed then.
+    #[tactic(auto, using(crate::proofs::Laws::tests), unfolding(crate::specs::Device::step_of, crate::specs::Device::room_of))]
     pub fn step(self, book: &[u8], event: Event, packet: &[u8], room: &mut [u8]) -> Stepped
         ensures { Stepping result room.new self book.now event packet.now room.old }
     {
-        let plan = self.profile.plan;
-        let ids = self.profile.ids;
-        let lens = self.profile.lens;
-        let units = self.profile.units;
-        let live = self.live;
-        let mut buffer = self.buffer;
-        let why = live::step_refusal(plan, &ids, &lens, live, book.len(), room.len());
-        if why.number() != 0 {
+        if let Err(refusal) = self.live.check_step(&self.profile, book.len(), room.len()) {
             return Stepped {
                 device: self,
-                polled: refused(why),
+                said: Err(refusal),
             };
         }
-        let h = events::handle(
-            event,
-            plan,
-            &ids,
-            &lens,
-            &units,
-            live,
-            packet,
-            &mut buffer,
-            book,
-            room,
-        );
-        let next = h.live;
-        let mut device = self;
-        device.live = next;
-        device.buffer = buffer;
+        let Device {
+            profile,
+            mut live,
+            mut buffer,
+        } = self;
+        let h = events::handle(event, &profile, &mut live, packet, &mut buffer, book, room);
         Stepped {
-            device,
-            polled: said(h, event),
+            device: Device {
+                profile,
+                live,
+                buffer,
+            },
+            said: Ok(said(&h, &event)),
         }
     }
 
-    fn unfit(self) -> Refusal
-        ensures { result ≡ refusal (unfit_device self) }
-    {
-        let plan = self.profile.plan;
-        let ids = self.profile.ids;
-        let lens = self.profile.lens;
-        let live = self.live;
-        live::unfit(plan, &ids, &lens, live)
-    }
-
-    // The OUT data of the last accepted SETUP goes to the front of the room.
-    pub fn data(self, room: &mut [u8]) -> Handed
-        ensures { Handing result room.new self room.old }
+    /// The OUT data of the last accepted SETUP goes to the front of the room: how many bytes.
+    ///
+    /// # Errors
+    ///
+    /// 9 where the device's state is none that a step leaves, 7 where no OUT data is complete, 8 where the room is shorter than it.
+    /// Nothing is written then.
+    #[tactic(auto, using(crate::proofs::Laws::tests), unfolding(crate::specs::Device::data_refusal, crate::specs::Device::handed_room))]
+    pub fn data(&self, room: &mut [u8]) -> Result<usize, Refusal>
+        ensures { Handing result room.new self.now room.old }
     {
         let coming = self.live.pipe.coming;
-        let why = data_refusal(self.unfit(), coming, room.len());
-        if why.number() != 0 {
-            return Handed {
-                refusal: why,
-                count: 0,
-            };
+        self.live.check(&self.profile)?;
+        if coming.awaited == 0 || coming.held < coming.awaited {
+            return Err(Refusal::NoData);
         }
         let n = coming.awaited as usize;
-        let buffer = self.buffer;
-        common::put(&buffer, 0, n, room, 0);
-        Handed {
-            refusal: Refusal::None,
-            count: n,
+        if room.len() < n {
+            return Err(Refusal::DataRoom);
         }
+        common::put(&self.buffer, 0, n, room, 0);
+        Ok(n)
     }
 
-    // Whether the device is self-powered now.
-    pub fn set_self_powered(self, on: bool) -> Built
-        ensures { result ≡ powered_of self on }
+    /// Sets whether the device is self-powered now, which GET_STATUS tells.
+    ///
+    /// # Errors
+    ///
+    /// 9 where the device's state is none that a step leaves. Nothing is changed then.
+    #[tactic(auto, using(crate::proofs::Laws::tests), unfolding(crate::specs::Device::powered_of))]
+    pub fn set_self_powered(&mut self, on: bool) -> Result<(), Refusal>
+        ensures { Setting result self.new self.old on }
     {
-        let why = self.unfit();
-        let mut device = self;
-        if why.number() != 0 {
-            return Built {
-                device,
-                refusal: why,
-            };
-        }
-        let mut live = self.live;
-        live.kept.powered = on;
-        device.live = live;
-        Built {
-            device,
-            refusal: Refusal::None,
-        }
+        self.live.check(&self.profile)?;
+        self.live.kept.powered = on;
+        Ok(())
     }
-}
-
-fn data_refusal(fit: Refusal, coming: Coming, room: usize) -> Refusal
-    ensures { result ≡ refusal (data_refusal (number_of fit) coming room) }
-{
-    if fit.number() != 0 {
-        return fit;
-    }
-    if coming.awaited == 0 {
-        return Refusal::NoData;
-    }
-    if coming.held < coming.awaited {
-        return Refusal::NoData;
-    }
-    if room < coming.awaited as usize {
-        return Refusal::DataRoom;
-    }
-    Refusal::None
 }
