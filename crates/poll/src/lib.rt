@@ -1,35 +1,32 @@
-// The device changed in place: one thin poll around the step by value, for an owner who holds a device and lends it.
+//! The device changed in place: one thin poll around the step by value, for an owner who holds a device and lends it.
 #![tactic(auto)]
 
-ghost use Rattle.device.specs.Device.{Stepping};
 ghost use Rattle.poll.specs.Poll.{Polling};
 
+use common::Refusal;
 use device::{Device, Polled, Stepped};
 use events::Event;
 
-// The step, with the device as a parameter like the others.
-fn step(device: Device, book: &[u8], event: Event, packet: &[u8], room: &mut [u8]) -> Stepped
-    ensures { Stepping result room.new device book.now event packet.now room.old }
-{
-    device.step(book, event, packet, room)
-}
-
-// One event of the bus: the device, the answer and the room are then those of its step, refused or not.
+/// One event of the bus: the device, what is said and the room are then those of its step.
+///
+/// # Errors
+///
+/// Those of `Device::step`, which leave the device and the room as they were.
 pub fn poll(
     device: &mut Device,
     book: &[u8],
     event: Event,
     packet: &[u8],
     room: &mut [u8],
-) -> Polled
+) -> Result<Polled, Refusal>
     ensures { Polling result device.new room.new device.old book.now event packet.now room.old }
 {
-    let s = step(*device, book, event, packet, room);
-    *device = s.device;
-    s.polled
+    let Stepped { device: next, said } = device.step(book, event, packet, room);
+    *device = next;
+    said
 }
 
-// A device by value, lent to `poll` and taken back: whoever calls this needs no proof by hand.
+/// A device by value, lent to `poll` and taken back.
 pub fn lend(
     mut device: Device,
     book: &[u8],
@@ -37,11 +34,8 @@ pub fn lend(
     packet: &[u8],
     room: &mut [u8],
 ) -> Stepped
-    ensures { Polling result.polled result.device room.new device book.now event packet.now room.old }
+    ensures { Polling result.said result.device room.new device book.now event packet.now room.old }
 {
-    let p = poll(&mut device, book, event, packet, room);
-    Stepped {
-        device: device,
-        polled: p,
-    }
+    let said = poll(&mut device, book, event, packet, room);
+    Stepped { device, said }
 }
