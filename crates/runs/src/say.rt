@@ -1,4 +1,4 @@
-// Words and numbers on standard output.
+//! Words and numbers on standard output.
 use common::Refusal;
 use control::{Direction, Recipient, Request, RequestType};
 use std::io::{self, Write};
@@ -37,10 +37,10 @@ pub(crate) fn hex<R: Print>(rt: &R, buf: &[u8]) -> io::Result<()> {
 
 // Direction, type and recipient, by a letter each, then the numbers.
 pub(crate) fn request<R: Print>(rt: &R, r: Request) -> io::Result<()> {
-    let direction = r.direction;
-    let kind = r.kind;
-    let recipient = r.recipient;
-    word(rt, &[direct(direction), typed(kind), receive(recipient)])?;
+    word(
+        rt,
+        &[direct(r.direction), typed(r.kind), receive(r.recipient)],
+    )?;
     next(rt, r.request as u64)?;
     next(rt, r.value as u64)?;
     next(rt, r.index as u64)?;
