@@ -6,6 +6,7 @@ use mathlib.Core.List.{List, [], ◌∷◌, ◌++◌}
 use native.Mathlib.Omega.{arith}
 use lib.Dec.{eqb}
 use lib.ListN.{length, length-append}
+use Rattle.std.specs.Prelude.{Option, Some, None}
 use Rattle.common.specs.Bytes.{placed}
 use Rattle.common.proofs.Laws.{cond-elim}
 use Rattle.control.specs.declared.Request.{Request}
@@ -18,7 +19,7 @@ use Rattle.control_pipe.specs.Stages.{Move, at, still, stalled, fresh, opened, o
 use Rattle.requests.specs.declared.Effect.{Effect}
 use Rattle.requests.specs.declared.Effect.TheVariants.{Nothing as NoEffect, Wakeup, Halt as HaltIt, Unhalt as UnhaltIt, Address as TakeAddress, Turn}
 use Rattle.answers.specs.declared.Verdict.{Verdict}
-use Rattle.answers.specs.declared.Verdict.TheVariants.{Stall, Bytes, Tiles, Accept}
+use Rattle.answers.specs.declared.Verdict.TheVariants.{Bytes, Tiles, Accept}
 use Rattle.answers.specs.Answers.{answer, verdict_of, buffer_of}
 use Rattle.live.specs.declared.Live.{Live}
 use Rattle.live.specs.Live.{awake}
@@ -96,7 +97,7 @@ few-one act told e l =
     record { two = omega arith; none = e; once = omega arith }
 
 act-none : (e : Effect) (quirk : Bool) → writes (alone (action_of e quirk)) ≡ 0
-unfolding action_of writes
+unfolding writes
 act-none NoEffect quirk = refl
 act-none (Wakeup on) quirk = refl
 act-none (HaltIt e) quirk = refl
@@ -105,12 +106,12 @@ act-none (TakeAddress a) true = refl
 act-none (TakeAddress a) false = refl
 act-none (Turn s) quirk = refl
 
-set-few : (v : Verdict) (size : ℕ) (quirk taken : Bool) (book : List ℕ) (l : Live) (b : List ℕ) → FewOf (set_out v size quirk taken book l b)
+set-few : (v : Option Verdict) (size : ℕ) (quirk taken : Bool) (book : List ℕ) (l : Live) (b : List ℕ) → FewOf (set_out v size quirk taken book l b)
 unfolding set_out send_chunk writes
-set-few Stall size quirk taken book l b = record { two = omega arith; none = refl; once = omega arith }
-set-few (Bytes n) size quirk taken book l b = few-one NoAction (written taken _) refl (written_one taken _)
-set-few (Tiles start) size quirk taken book l b = few-one NoAction (written taken _) refl (written_one taken _)
-set-few (Accept e) size quirk taken book l b = few-one (action_of e quirk) (written taken 0) (act-none e quirk) (written_one taken 0)
+set-few None size quirk taken book l b = record { two = omega arith; none = refl; once = omega arith }
+set-few (Some (Bytes n)) size quirk taken book l b = few-one NoAction (written taken _) refl (written_one taken _)
+set-few (Some (Tiles start)) size quirk taken book l b = few-one NoAction (written taken _) refl (written_one taken _)
+set-few (Some (Accept e)) size quirk taken book l b = few-one (action_of e quirk) (written taken 0) (act-none e quirk) (written_one taken 0)
 
 in_one : (size : ℕ) (taken : Bool) (book : List ℕ) (p : Pipe) (b : List ℕ) → length (listed (in_complete size taken book p b).told) ≤ 1
 unfolding send_chunk

@@ -6,6 +6,7 @@ use mathlib.Core.Path.{◌≡◌, refl}
 use native.Mathlib.Omega.{arith}
 use borrow.Author.Tests.{leb-true, ltb-true, eqb-true}
 use lib.Dec.{eqb, leb, ltb}
+use Rattle.std.specs.Prelude.{Option, Some, None}
 use Rattle.common.specs.Lists.{between}
 use Rattle.common.proofs.Laws.{cond-elim, and_right}
 use Rattle.control.specs.declared.BusAddress.{BusAddress}
@@ -23,16 +24,15 @@ use Rattle.requests.specs.declared.Kept.{Kept}
 use Rattle.requests.specs.declared.Effect.{Effect}
 use Rattle.requests.specs.declared.Effect.TheVariants.{Nothing, Wakeup, Halt, Unhalt, Address, Turn}
 use Rattle.requests.specs.declared.Decision.{Decision}
-use Rattle.requests.specs.declared.Decision.TheVariants.{Stall, Status, Byte, Describe, Tiles, Accept}
-use Rattle.requests.specs.Requests.{endpoint_of, device_in, interface_in, endpoint_in, standard_in, tiles_from, tiles_in, vendor_in, decide_in, set_address, deconfigured, set_configuration, feature, device_out, interface_out, endpoint_out, standard_out, decide_out}
+use Rattle.requests.specs.declared.Decision.TheVariants.{Status, Byte, Describe, Tiles, Accept}
+use Rattle.requests.specs.Requests.{endpoint_of, standard_in, vendor_in, decide_in, deconfigured, feature, device_out, standard_out, decide_out}
 use Rattle.live.specs.Live.{awake}
 
-module _ (P : Decision → Type 0) (stall : P Stall) (k : Kept) (q : Request) where
+module _ (P : Option Decision → Type 0) (stall : P None) (k : Kept) (q : Request) where
   -- ---- an IN request: a status, a byte, a descriptor, or tiles from inside the book
 
-  module _ (p : Pipe) (book : ℕ) (status : (n : ℕ) → P (Status n)) (byte : (n : ℕ) → P (Byte n)) (describe : P Describe) (tiles : (start : ℕ) → start ≤ book → P (Tiles start)) where
+  module _ (p : Pipe) (book : ℕ) (status : (n : ℕ) → P (Some (Status n))) (byte : (n : ℕ) → P (Some (Byte n))) (describe : P (Some Describe)) (tiles : (start : ℕ) → start ≤ book → P (Some (Tiles start))) where
     standard-elim : (w : Recipient) → P (standard_in w k p q)
-    unfolding standard_in device_in interface_in endpoint_in
     standard-elim Device =
         cond-elim P (eqb q.request 0) _ _ (λ e. status _) (λ e. cond-elim P (eqb q.request 6) _ _ (λ e. describe) (λ e. cond-elim P (eqb q.request 8) _ _ (λ e. byte _) (λ e. stall)))
     standard-elim Interface =
@@ -42,7 +42,6 @@ module _ (P : Decision → Type 0) (stall : P Stall) (k : Kept) (q : Request) wh
     standard-elim Reserved = stall
 
     vendor-elim : (w : Recipient) → P (vendor_in w q book)
-    unfolding vendor_in tiles_in tiles_from
     vendor-elim Device =
         cond-elim P (eqb q.request 1 && eqb q.index 0) _ _
         (λ e. cond-elim P (ltb q.value (book / tile_size)) _ _ (λ e. let l : q.value < book / 16 = ltb-true _ _ e in tiles _ (omega arith)) (λ e. stall)) (λ e. stall)
@@ -52,7 +51,6 @@ module _ (P : Decision → Type 0) (stall : P Stall) (k : Kept) (q : Request) wh
     vendor-elim Reserved = stall
 
     pub decide-in-elim : (t : RequestType) → P (decide_in t k p q book)
-    unfolding decide_in
     decide-in-elim Standard = standard-elim q.recipient
     decide-in-elim Class = stall
     decide-in-elim Vendor = vendor-elim q.recipient
@@ -60,20 +58,19 @@ module _ (P : Decision → Type 0) (stall : P Stall) (k : Kept) (q : Request) wh
 
   -- ---- an OUT request: an effect. An address is 127 at most, and the request is SET_ADDRESS; no state is Suspend
 
-  module _ (nothing : P (Accept Nothing)) (wake : (on : Bool) → P (Accept (Wakeup on))) (halt : (e : EndpointAddress) → P (Accept (Halt e))) (unhalt : (e : EndpointAddress) → P (Accept (Unhalt e)))
-      (address : (a : BusAddress) → a.0 ≤ 127 → q.kind ≡ Standard → q.recipient ≡ Device → q.request ≡ 5 → q.value ≡ a.0 → P (Accept (Address a)))
-      (turn : (s : State) → awake s ≡ true → P (Accept (Turn s))) where
-    feature-elim : (n value : ℕ) (e : Effect) → P (Accept e) → P (feature n value e)
+  module _ (nothing : P (Some (Accept Nothing))) (wake : (on : Bool) → P (Some (Accept (Wakeup on)))) (halt : (e : EndpointAddress) → P (Some (Accept (Halt e)))) (unhalt : (e : EndpointAddress) → P (Some (Accept (Unhalt e))))
+      (address : (a : BusAddress) → a.0 ≤ 127 → q.kind ≡ Standard → q.recipient ≡ Device → q.request ≡ 5 → q.value ≡ a.0 → P (Some (Accept (Address a))))
+      (turn : (s : State) → awake s ≡ true → P (Some (Accept (Turn s)))) where
+    feature-elim : (n value : ℕ) (e : Effect) → P (Some (Accept e)) → P (feature n value e)
     feature-elim n value e f = cond-elim P (eqb value n) _ _ (λ t. f) (λ t. stall)
 
-    deconfigured-elim : (s : State) → P (Accept (deconfigured s))
+    deconfigured-elim : (s : State) → P (Some (Accept (deconfigured s)))
     deconfigured-elim Default = nothing
     deconfigured-elim Addressed = turn Addressed refl
     deconfigured-elim Configured = turn Addressed refl
     deconfigured-elim Suspend = turn Addressed refl
 
     device-elim : q.kind ≡ Standard → q.recipient ≡ Device → P (device_out k.state q.request q.value)
-    unfolding device_out set_address set_configuration
     device-elim t w =
         cond-elim P (eqb q.request 1) _ _ (λ e. feature-elim 1 q.value (Wakeup false) (wake false))
         (λ e. cond-elim P (eqb q.request 3) _ _ (λ e. feature-elim 1 q.value (Wakeup true) (wake true))
@@ -84,7 +81,6 @@ module _ (P : Decision → Type 0) (stall : P Stall) (k : Kept) (q : Request) wh
         (λ e. cond-elim P (eqb q.value 1) _ _ (λ e. turn Configured refl) (λ e. cond-elim P (eqb q.value 0) _ _ (λ e. deconfigured-elim k.state) (λ e. stall))) (λ e. stall))))
 
     out-standard-elim : (w : Recipient) → q.kind ≡ Standard → q.recipient ≡ w → P (standard_out w k q)
-    unfolding standard_out interface_out endpoint_out
     out-standard-elim Device t w = device-elim t w
     out-standard-elim Interface t w = cond-elim P (eqb q.request 11 && eqb q.value 0 && leb q.index 255) _ _ (λ e. nothing) (λ e. stall)
     out-standard-elim Endpoint t w =
@@ -94,7 +90,6 @@ module _ (P : Decision → Type 0) (stall : P Stall) (k : Kept) (q : Request) wh
     out-standard-elim Reserved t w = stall
 
     pub decide-out-elim : P (decide_out q.kind k q)
-    unfolding decide_out
     decide-out-elim = by q.kind refl
       where
         by : (t : RequestType) → q.kind ≡ t → P (decide_out t k q)

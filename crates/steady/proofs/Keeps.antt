@@ -3,11 +3,12 @@ use Prim.Native.Nat.{ℕ, ◌+◌, ◌-◌, ◌/◌, ◌%◌, ◌≤◌}
 use mathlib.Core.Bool.{Bool, true, false, cond, not, ◌&&◌, false≢true}
 use mathlib.Core.Path.{◌≡◌, refl}
 use mathlib.Core.List.{List}
-use mathlib.Core.Option.{Option, some, none}
+use Rattle.std.specs.Prelude.{Option, Some, None}
 use native.Mathlib.Omega.{arith}
 use borrow.Author.Tests.{le-leb, leb-true, eqb-true}
 use lib.Dec.{eqb, leb, ltb}
 use lib.ListN.{length}
+use Rattle.std.proofs.lemmas.Bool.{and_from}
 use Rattle.common.proofs.Laws.{cond-elim, and_left, and_right}
 use Rattle.control.specs.declared.BusAddress.{BusAddress}
 use Rattle.control.specs.declared.EndpointAddress.{EndpointAddress}
@@ -35,12 +36,12 @@ use Rattle.requests.specs.declared.Kept.{Kept}
 use Rattle.requests.specs.declared.Effect.{Effect}
 use Rattle.requests.specs.declared.Effect.TheVariants.{Nothing as NoEffect, Wakeup, Halt, Unhalt, Address, Turn}
 use Rattle.requests.specs.declared.Decision.{Decision}
-use Rattle.requests.specs.declared.Decision.TheVariants.{Stall as StallIt, Status, Byte, Describe, Tiles as TilesFrom, Accept as AcceptIt}
+use Rattle.requests.specs.declared.Decision.TheVariants.{Status, Byte, Describe, Tiles as TilesFrom, Accept as AcceptIt}
 use Rattle.requests.specs.Requests.{decide_by, decided}
 use Rattle.answers.specs.declared.Verdict.{Verdict}
-use Rattle.answers.specs.declared.Verdict.TheVariants.{Stall, Bytes, Tiles, Accept}
+use Rattle.answers.specs.declared.Verdict.TheVariants.{Bytes, Tiles, Accept}
 use Rattle.writer.specs.Descriptors.{descriptor_of}
-use Rattle.answers.specs.Answers.{Answer, told, described, answer_of, answer, verdict_of, buffer_of}
+use Rattle.answers.specs.Answers.{Answer, told, described, answer_of, answered, answer, verdict_of, buffer_of}
 use Rattle.answers.proofs.Laws.{device-fits, configuration-fits, string-fits}
 use Rattle.live.specs.declared.Live.{Live}
 use Rattle.live.specs.Live.{book_fine, coming_fine, source_room, reply_fine, pipe_fine, awake, state_fine, live_fine}
@@ -54,10 +55,6 @@ use Rattle.steady.proofs.Moves.{begin-elim, arrived-elim, in-elim}
 
 -- ---- a good pipe, as facts
 
-both : (a b : Bool) → a ≡ true → b ≡ true → a && b ≡ true
-both true b e f = f
-both false b e f = e
-
 -- of OUT data, IN answer and pending address, beside a book of so many bytes
 pub record Fits (c : Coming) (a : Reply) (pending : BusAddress) (book : ℕ) : Type 0 where
   pub awaited : c.awaited ≤ buffer_room
@@ -70,7 +67,6 @@ abbrev pub FitsOf : ℕ → Pipe → Type 0
 FitsOf book p = Fits p.coming p.reply p.pending book
 
 pub pipe-facts : (p : Pipe) (book : ℕ) → pipe_fine p book ≡ true → FitsOf book p
-unfolding pipe_fine coming_fine reply_fine
 pipe-facts p book e =
     let c = p.coming in
     let a = p.reply in
@@ -86,9 +82,8 @@ pipe-facts p book e =
     }
 
 pipe-fine : (p : Pipe) (book : ℕ) → FitsOf book p → pipe_fine p book ≡ true
-unfolding pipe_fine coming_fine reply_fine
 pipe-fine p book f =
-    both _ _ (both _ _ (both _ _ (le-leb _ _ f.awaited) (le-leb _ _ f.held)) (both _ _ (le-leb _ _ f.sent) (le-leb _ _ f.inside))) (le-leb _ _ f.address)
+    and_from _ _ (and_from _ _ (and_from _ _ (le-leb _ _ f.awaited) (le-leb _ _ f.held)) (and_from _ _ (le-leb _ _ f.sent) (le-leb _ _ f.inside))) (le-leb _ _ f.address)
 
 fresh-fits : (book : ℕ) (t : Stage) (q : Request) (n : ℕ) → n ≤ buffer_room → FitsOf book (fresh t q n)
 fresh-fits book t q n l = record { awaited = l; held = omega arith; sent = omega arith; inside = omega arith; address = omega arith }
@@ -142,16 +137,16 @@ Allowed (Address a) = a.0 ≤ 127
 Allowed (Turn s) = awake s ≡ true
 
 -- tiles start inside the book
-abbrev Fair : ℕ → Decision → Type 0
-Fair book StallIt = Unit {0}
-Fair book (Status n) = Unit {0}
-Fair book (Byte n) = Unit {0}
-Fair book Describe = Unit {0}
-Fair book (TilesFrom start) = start ≤ book
-Fair book (AcceptIt e) = Allowed e
+abbrev Fair : ℕ → Option Decision → Type 0
+Fair book None = Unit {0}
+Fair book (Some (Status n)) = Unit {0}
+Fair book (Some (Byte n)) = Unit {0}
+Fair book (Some Describe) = Unit {0}
+Fair book (Some (TilesFrom start)) = start ≤ book
+Fair book (Some (AcceptIt e)) = Allowed e
 
 decided-fair : (book : ℕ) (k : Kept) (p : Pipe) → Fair book (decided k p book)
-unfolding decided decide_by
+unfolding decided
 decided-fair book k p = by p.request.direction
   where
     by : (d : Direction) → Fair book (decide_by d k p p.request book)
@@ -161,49 +156,49 @@ decided-fair book k p = by p.request.direction
 -- ---- .. and tells
 
 -- bytes that are told fit in the buffer
-abbrev pub Sound : ℕ → Verdict → Type 0
-Sound book Stall = Unit {0}
-Sound book (Bytes n) = n ≤ buffer_room
-Sound book (Tiles start) = start ≤ book
-Sound book (Accept e) = Allowed e
+abbrev pub Sound : ℕ → Option Verdict → Type 0
+Sound book None = Unit {0}
+Sound book (Some (Bytes n)) = n ≤ buffer_room
+Sound book (Some (Tiles start)) = start ≤ book
+Sound book (Some (Accept e)) = Allowed e
 
 module _ (book : ℕ) (r : Record) where
   abbrev SoundOf : Answer → Type 0
   SoundOf a = Sound book (verdict_of a)
 
-  told-sound : (o : Option (List ℕ)) → ((b : List ℕ) → o ≡ some b → length b ≤ buffer_room) → SoundOf (told o)
-  told-sound none f = tt
-  told-sound (some b) f = f b refl
+  told-sound : (o : Option (List ℕ)) → ((b : List ℕ) → o ≡ Some b → length b ≤ buffer_room) → SoundOf (told o)
+  told-sound None f = tt
+  told-sound (Some b) f = f b refl
 
   module _ (q : Request) where
-    descriptor-sound : (kind index language : ℕ) → lowest r.plan r.ids r.lens ≡ 0 → SoundOf (told (descriptor_of r kind index language))
+    descriptor-sound : (kind index language : ℕ) → lowest r ≡ 0 → SoundOf (told (descriptor_of r kind index language))
     unfolding descriptor_of
     descriptor-sound kind index language z =
         let P : Option (List ℕ) → Type 0 = λ o. SoundOf (told o) in
-        cond-elim P (eqb kind 1) _ _ (λ e. told-sound (some (device_bytes r.plan r.lens)) (device-fits r z))
-        (λ e. cond-elim P (eqb kind 2) _ _ (λ e. told-sound (some (configuration_bytes r.plan)) (configuration-fits r z))
+        cond-elim P (eqb kind 1) _ _ (λ e. told-sound (Some (device_bytes r)) (device-fits r z))
+        (λ e. cond-elim P (eqb kind 2) _ _ (λ e. told-sound (Some (configuration_bytes r.plan)) (configuration-fits r z))
         (λ e. cond-elim P (eqb kind 3) _ _
-        (λ e. told-sound (string_of r.plan.languages r.ids r.lens r.units index language) (string-fits r z index language))
+        (λ e. told-sound (string_of r index language) (string-fits r z index language))
         (λ e. tt)))
 
     described-sound : SoundOf (described r q)
     unfolding described
     described-sound =
-        let n = lowest r.plan r.ids r.lens in
+        let n = lowest r in
         cond-elim SoundOf (eqb n 0) _ _ (λ e. descriptor-sound (q.value / 256) (q.value % 256) q.index (eqb-true n 0 e)) (λ e. tt)
 
-  answer-of-sound : (q : Request) (d : Decision) → Fair book d → SoundOf (answer_of r q d)
+  answered-sound : (q : Request) (d : Option Decision) → Fair book d → SoundOf (answered r q d)
   unfolding answer_of
-  answer-of-sound q StallIt f = tt
-  answer-of-sound q (Status n) f = let l : 2 ≤ buffer_room = omega arith in l
-  answer-of-sound q (Byte n) f = let l : 1 ≤ buffer_room = omega arith in l
-  answer-of-sound q Describe f = described-sound q
-  answer-of-sound q (TilesFrom start) f = f
-  answer-of-sound q (AcceptIt e) f = f
+  answered-sound q None f = tt
+  answered-sound q (Some (Status n)) f = let l : 2 ≤ buffer_room = omega arith in l
+  answered-sound q (Some (Byte n)) f = let l : 1 ≤ buffer_room = omega arith in l
+  answered-sound q (Some Describe) f = described-sound q
+  answered-sound q (Some (TilesFrom start)) f = f
+  answered-sound q (Some (AcceptIt e)) f = f
 
   pub answer-sound : (k : Kept) (p : Pipe) → SoundOf (answer r k p book)
   unfolding answer
-  answer-sound k p = answer-of-sound p.request (decided k p book) (decided-fair book k p)
+  answer-sound k p = answered-sound p.request (decided k p book) (decided-fair book k p)
 
 -- ---- the second half of an event
 
@@ -222,7 +217,6 @@ module _ (l : Live) (w : Awake l) where
   with-pipe p f = record { built = w.built; book = w.book; state = w.state; pipe = f }
 
   halting-keeps : (e : EndpointAddress) (on : Bool) → Awake (halting e on l)
-  unfolding halting
   halting-keeps e on =
       cond-elim Awake (eqb (e.0 % 16) 0) _ _
       (λ t. cond-elim Awake (ltb e.0 128) _ _
@@ -231,7 +225,6 @@ module _ (l : Live) (w : Awake l) where
       (λ t. record { built = w.built; book = w.book; state = w.state; pipe = w.pipe })
 
   awaiting-keeps : (a : BusAddress) (quirk : Bool) → a.0 ≤ 127 → Awake (awaiting a quirk l)
-  unfolding awaiting
   awaiting-keeps a true h = record { built = w.built; book = w.book; state = refl; pipe = w.pipe }
   awaiting-keeps a false h =
       let f = w.pipe in
@@ -243,7 +236,6 @@ module _ (l : Live) (w : Awake l) where
       }
 
   effected-keeps : (e : Effect) (quirk : Bool) → Allowed e → Awake (effected e quirk l)
-  unfolding effected
   effected-keeps NoEffect quirk a = w
   effected-keeps (Wakeup on) quirk a = record { built = w.built; book = w.book; state = w.state; pipe = w.pipe }
   effected-keeps (Halt e) quirk a = halting-keeps e true
@@ -252,16 +244,16 @@ module _ (l : Live) (w : Awake l) where
   effected-keeps (Turn s) quirk a = record { built = w.built; book = w.book; state = a; pipe = w.pipe }
 
 module _ (size : ℕ) (quirk taken : Bool) (bytes : List ℕ) (l : Live) (b : List ℕ) (w : Awake l) where
-  set_keeps : (v : Verdict) → Sound l.book v → AwakeOf (set_out v size quirk taken bytes l b)
+  set_keeps : (v : Option Verdict) → Sound l.book v → AwakeOf (set_out v size quirk taken bytes l b)
   unfolding set_out
-  set_keeps Stall s = with-pipe l w _ w.pipe
-  set_keeps (Bytes n) s =
+  set_keeps None s = with-pipe l w _ w.pipe
+  set_keeps (Some (Bytes n)) s =
       let p = answering Buffer 0 n l.pipe in
       with-pipe l w _ (chunk-holds l.book p b (answering-fits l.book l.pipe b w.pipe Buffer 0 n (omega (arith, s))) size taken bytes)
-  set_keeps (Tiles start) s =
+  set_keeps (Some (Tiles start)) s =
       let p = answering Book start (l.book - start) l.pipe in
       with-pipe l w _ (chunk-holds l.book p b (answering-fits l.book l.pipe b w.pipe Book start (l.book - start) (omega (arith, s))) size taken bytes)
-  set_keeps (Accept e) s =
+  set_keeps (Some (Accept e)) s =
       let k = effected e quirk l in
       let x = effected-keeps l w e quirk s in
       with-pipe k x _ (empty_holds k.book k.pipe b x.pipe taken StatusIn)
@@ -292,7 +284,7 @@ follow-keeps r false false taken bytes l b w = w
 
 fine : (l : Live) → l.built ≡ true → book_fine l.book ≡ true → state_fine l.kept.state l.before ≡ true → FitsOf l.book l.pipe → live_fine l ≡ true
 unfolding live_fine
-fine l x y z f = both _ _ (both _ _ (both _ _ x y) z) (pipe-fine l.pipe l.book f)
+fine l x y z f = and_from _ _ (and_from _ _ (and_from _ _ x y) z) (pipe-fine l.pipe l.book f)
 
 awake-fine : (s before : State) → awake s ≡ true → state_fine s before ≡ true
 awake-fine Default before e = refl

@@ -6,6 +6,7 @@ use mathlib.Core.List.{List, [], ◌∷◌}
 use native.Mathlib.Omega.{arith}
 use lib.Dec.{eqb, ltb}
 use lib.ListN.{length}
+use Rattle.std.specs.Prelude.{Option, Some, None}
 use Rattle.common.specs.Bytes.{placed}
 use Rattle.common.proofs.Laws.{cond-elim, length-placed, placed-nil}
 use Rattle.control.specs.declared.BusAddress.{BusAddress}
@@ -19,7 +20,7 @@ use Rattle.control_pipe.specs.Stages.{Move, begin_by, send_chunk, in_complete}
 use Rattle.requests.specs.declared.Effect.{Effect}
 use Rattle.requests.specs.declared.Effect.TheVariants.{Nothing as NoEffect, Wakeup, Halt, Unhalt, Address, Turn}
 use Rattle.answers.specs.declared.Verdict.{Verdict}
-use Rattle.answers.specs.declared.Verdict.TheVariants.{Stall, Bytes, Tiles, Accept}
+use Rattle.answers.specs.declared.Verdict.TheVariants.{Bytes, Tiles, Accept}
 use Rattle.answers.specs.Answers.{Answer, stall, tell, tiles, accept, answer, verdict_of, buffer_of}
 use Rattle.live.specs.declared.Live.{Live}
 use Rattle.live.specs.Live.{awake}
@@ -42,19 +43,16 @@ SameOf l h = Same l h.live
 
 module _ (l : Live) where
   halting-same : (e : EndpointAddress) (on : Bool) → Same l (halting e on l)
-  unfolding halting
   halting-same e on =
       cond-elim (Same l) (eqb (e.0 % 16) 0) _ _
       (λ t. cond-elim (Same l) (ltb e.0 128) _ _ (λ t. record { book = refl; built = refl }) (λ t. record { book = refl; built = refl }))
       (λ t. record { book = refl; built = refl })
 
   awaiting-same : (a : BusAddress) (quirk : Bool) → Same l (awaiting a quirk l)
-  unfolding awaiting
   awaiting-same a true = record { book = refl; built = refl }
   awaiting-same a false = record { book = refl; built = refl }
 
   effected-same : (e : Effect) (quirk : Bool) → Same l (effected e quirk l)
-  unfolding effected
   effected-same NoEffect quirk = record { book = refl; built = refl }
   effected-same (Wakeup on) quirk = record { book = refl; built = refl }
   effected-same (Halt e) quirk = halting-same e true
@@ -62,12 +60,12 @@ module _ (l : Live) where
   effected-same (Address a) quirk = awaiting-same a quirk
   effected-same (Turn s) quirk = record { book = refl; built = refl }
 
-  set_same : (v : Verdict) (size : ℕ) (quirk taken : Bool) (book b : List ℕ) → SameOf l (set_out v size quirk taken book l b)
+  set_same : (v : Option Verdict) (size : ℕ) (quirk taken : Bool) (book b : List ℕ) → SameOf l (set_out v size quirk taken book l b)
   unfolding set_out
-  set_same Stall size quirk taken book b = record { book = refl; built = refl }
-  set_same (Bytes n) size quirk taken book b = record { book = refl; built = refl }
-  set_same (Tiles start) size quirk taken book b = record { book = refl; built = refl }
-  set_same (Accept e) size quirk taken book b = let s = effected-same e quirk in record { book = s.book; built = s.built }
+  set_same None size quirk taken book b = record { book = refl; built = refl }
+  set_same (Some (Bytes n)) size quirk taken book b = record { book = refl; built = refl }
+  set_same (Some (Tiles start)) size quirk taken book b = record { book = refl; built = refl }
+  set_same (Some (Accept e)) size quirk taken book b = let s = effected-same e quirk in record { book = s.book; built = s.built }
 
   tick-same : (size : ℕ) (quirk taken : Bool) (book b : List ℕ) → SameOf l (ticked size quirk taken book l b)
   unfolding ticked
@@ -141,12 +139,12 @@ buffer-whole (tell bytes) book b s w = placed-whole b bytes 0 w (omega (arith, s
 buffer-whole (tiles start) book b s w = w
 buffer-whole (accept e) book b s w = w
 
-set-whole : (v : Verdict) (size : ℕ) (quirk taken : Bool) (book : List ℕ) (l : Live) (b : List ℕ) → Whole b → Whole (set_out v size quirk taken book l b).buffer
+set-whole : (v : Option Verdict) (size : ℕ) (quirk taken : Bool) (book : List ℕ) (l : Live) (b : List ℕ) → Whole b → Whole (set_out v size quirk taken book l b).buffer
 unfolding set_out send_chunk
-set-whole Stall size quirk taken book l b w = w
-set-whole (Bytes n) size quirk taken book l b w = w
-set-whole (Tiles start) size quirk taken book l b w = w
-set-whole (Accept e) size quirk taken book l b w = w
+set-whole None size quirk taken book l b w = w
+set-whole (Some (Bytes n)) size quirk taken book l b w = w
+set-whole (Some (Tiles start)) size quirk taken book l b w = w
+set-whole (Some (Accept e)) size quirk taken book l b w = w
 
 tick-whole : (size : ℕ) (quirk taken : Bool) (book : List ℕ) (l : Live) (b : List ℕ) → Whole b → Whole (ticked size quirk taken book l b).buffer
 unfolding ticked

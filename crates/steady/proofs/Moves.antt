@@ -72,7 +72,7 @@ module _ (P : Move → Type 0) where
       out-elim Error r e = bad-elim r
 
       setup-elim : (r : Read) → (r ≡ Packet → length s ≡ 8 → P (begin_by (request_of s).direction (request_of s))) → P (setup_come r s p b)
-      unfolding setup_come begun parsed
+      unfolding setup_come begun
       setup-elim Packet f = by (eqb (length s) 8) refl
         where
           by : (t : Bool) → eqb (length s) 8 ≡ t → P (begun (parsed s) p b)

@@ -6,6 +6,7 @@ use mathlib.Core.List.{List, []}
 use native.Mathlib.Omega.{arith}
 use lib.Dec.{eqb}
 use lib.ListN.{length, drop, length-take}
+use Rattle.std.specs.Prelude.{Option, Some, None}
 use Rattle.common.specs.Bytes.{inside, part, piece}
 use Rattle.common.proofs.Laws.{cond-elim}
 use Rattle.record.specs.declared.Record.{Record}
@@ -15,7 +16,7 @@ use Rattle.control_pipe.specs.declared.Told.TheVariants.{Nothing as Silence, Uns
 use Rattle.control_pipe.specs.declared.Pipe.{Pipe}
 use Rattle.control_pipe.specs.Stages.{Move, written, send_chunk, in_complete, chunk, bytes_of, answering}
 use Rattle.answers.specs.declared.Verdict.{Verdict}
-use Rattle.answers.specs.declared.Verdict.TheVariants.{Stall, Bytes, Tiles, Accept}
+use Rattle.answers.specs.declared.Verdict.TheVariants.{Bytes, Tiles, Accept}
 use Rattle.answers.specs.Answers.{answer, verdict_of, buffer_of}
 use Rattle.live.specs.declared.Live.{Live}
 use Rattle.live.specs.Live.{awake}
@@ -75,12 +76,12 @@ in-short size taken book p b =
     in-elim (SmallMove size) p b (none-small size Silence refl) size taken book (λ e. chunk-short size taken book p b) (λ e. empty-small size taken) (λ e. none-small size UnstalledOut refl)
     (λ e. none-small size Silence refl)
 
-set-short : (v : Verdict) (size : ℕ) (quirk taken : Bool) (book : List ℕ) (l : Live) (b : List ℕ) → SmallHalf size (set_out v size quirk taken book l b)
+set-short : (v : Option Verdict) (size : ℕ) (quirk taken : Bool) (book : List ℕ) (l : Live) (b : List ℕ) → SmallHalf size (set_out v size quirk taken book l b)
 unfolding set_out
-set-short Stall size quirk taken book l b = none-small size Stalls refl
-set-short (Bytes n) size quirk taken book l b = chunk-short size taken book (answering Buffer 0 n l.pipe) b
-set-short (Tiles start) size quirk taken book l b = chunk-short size taken book (answering Book start (l.book - start) l.pipe) b
-set-short (Accept e) size quirk taken book l b = empty-small size taken
+set-short None size quirk taken book l b = none-small size Stalls refl
+set-short (Some (Bytes n)) size quirk taken book l b = chunk-short size taken book (answering Buffer 0 n l.pipe) b
+set-short (Some (Tiles start)) size quirk taken book l b = chunk-short size taken book (answering Book start (l.book - start) l.pipe) b
+set-short (Some (Accept e)) size quirk taken book l b = empty-small size taken
 
 tick-short : (size : ℕ) (quirk taken : Bool) (book : List ℕ) (l : Live) (b : List ℕ) → SmallHalf size (ticked size quirk taken book l b)
 unfolding ticked

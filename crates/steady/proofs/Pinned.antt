@@ -2,35 +2,38 @@
 use Prim.Native.Nat.{ℕ}
 use mathlib.Core.Path.{◌≡◌, refl}
 use mathlib.Core.List.{List}
+use Rattle.std.specs.Prelude.{Option}
 use Rattle.common.proofs.Once.{Once, equal, equals}
 use Rattle.common.proofs.clear.Reads as clear
 use Rattle.control.proofs.word.Reads as word
+use Rattle.control_pipe.specs.declared.Heard.{Heard}
 use Rattle.control_pipe.specs.declared.Moved.{Moved}
+use Rattle.control_pipe.specs.declared.Told.{Told}
+use Rattle.control_pipe.specs.declared.Pipe.{Pipe}
+use Rattle.control_pipe.proofs.Heard.nothing.Reads as nothing
 use Rattle.control_pipe.proofs.Pipe.idle.Reads as idle
-use Rattle.control_pipe.proofs.Pipe.still.Reads as still
-use Rattle.control_pipe.proofs.Pipe.stalled.Reads as stalled
+use Rattle.control_pipe.proofs.Pipe.stall.Reads as stalled
 use Rattle.control_pipe.proofs.Pipe.setup_come.Reads as setup
 use Rattle.control_pipe.proofs.Pipe.out_come.Reads as out
 use Rattle.control_pipe.proofs.Pipe.in_complete.Reads as complete
 use Rattle.control_pipe.proofs.Pipe.accept_in.Reads as accept-in
 use Rattle.control_pipe.proofs.Pipe.accept_out.Reads as accept-out
-use Rattle.requests.proofs.Kept.with_halt.Reads as halt
+use Rattle.requests.proofs.Kept.set_halt.Reads as halt
 use Rattle.requests.proofs.decide.Reads as decide
+use Rattle.live.specs.declared.Live.{Live}
 use Rattle.live.proofs.Live.fresh.Reads as fresh
 use Rattle.live.proofs.book_fine.Reads as book
-use Rattle.live.proofs.unfit.Reads as unfit
-use Rattle.live.proofs.step_refusal.Reads as refusal
+use Rattle.live.proofs.Live.check.Reads as unfit
+use Rattle.live.proofs.Live.check_step.Reads as refusal
 use Rattle.answers.specs.declared.Verdict.{Verdict}
 use Rattle.answers.proofs.write.Reads as write
 use Rattle.effects.specs.declared.Half.{Half}
-use Rattle.effects.proofs.with_pipe.Reads as pipe
-use Rattle.effects.proofs.in_state.Reads as state
 use Rattle.effects.proofs.set_out.Reads as set
 use Rattle.effects.proofs.tick.Reads as tick
 use Rattle.events.specs.declared.Handled.{Handled}
 use Rattle.events.proofs.handle.Reads as handle
 
--- an answer and two lent lists
+-- an answer, what is changed in place, and a lent list
 three : {B C D : Type 0} {x y z : B} {u v w : C} {f g h : D} → x ≡ z → u ≡ w → f ≡ h → y ≡ z → v ≡ w → g ≡ h → ◌≡◌ {A = B × (C × D)} (x, (u, f)) (y, (v, g))
 three p q r s t u = equals (equal p s) (equals q r t u) refl refl
 
@@ -42,33 +45,33 @@ word-once κs a x y s t = equal
 
 -- ---- control_pipe
 
+pub nothing-once : Once nothing.Post (λ κs x s. x)
+nothing-once κs a x y s t = equal
+
 pub idle-once : Once idle.Post (λ κs x s. x)
 idle-once κs a x y s t = equal
 
-pub still-once : Once still.Post (λ κs x s. x)
-still-once κs a x y s t = equal
+pub stalled-once : Once {B = Told × Pipe} stalled.Post (λ κs x s. (x, s.0.now))
+stalled-once κs a x y s t p q = equals p.value p.pipe q.value q.pipe
 
-pub stalled-once : Once stalled.Post (λ κs x s. x)
-stalled-once κs a x y s t = equal
+pub setup-once : Once {B = Heard × (Pipe × List ℕ)} setup.Post (λ κs x s. (x, (s.0.now, s.1.1.1.0.now)))
+setup-once κs a x y s t p q = three p.value p.pipe p.buffer q.value q.pipe q.buffer
 
-pub setup-once : Once {B = Moved × List ℕ} setup.Post (λ κs x s. (x, s.1.1.1.0.now))
-setup-once κs a x y s t p q = equals p.value p.buffer q.value q.buffer
+pub out_once : Once {B = Heard × (Pipe × List ℕ)} out.Post (λ κs x s. (x, (s.0.now, s.1.1.1.0.now)))
+out_once κs a x y s t p q = three p.value p.pipe p.buffer q.value q.pipe q.buffer
 
-pub out_once : Once {B = Moved × List ℕ} out.Post (λ κs x s. (x, s.1.1.1.0.now))
-out_once κs a x y s t p q = equals p.value p.buffer q.value q.buffer
+pub complete-once : Once {B = Moved × (Pipe × List ℕ)} complete.Post (λ κs x s. (x, (s.0.now, s.1.1.1.0.now)))
+complete-once κs a x y s t p q = three p.value p.pipe p.room q.value q.pipe q.room
 
-pub complete-once : Once {B = Moved × List ℕ} complete.Post (λ κs x s. (x, s.1.1.1.1.1.0.now))
-complete-once κs a x y s t p q = equals p.value p.room q.value q.room
+pub accept-in-once : Once {B = Told × (Pipe × List ℕ)} accept-in.Post (λ κs x s. (x, (s.0.now, s.1.1.1.1.1.1.0.now)))
+accept-in-once κs a x y s t p q = three p.value p.pipe p.room q.value q.pipe q.room
 
-pub accept-in-once : Once {B = Moved × List ℕ} accept-in.Post (λ κs x s. (x, s.1.1.1.1.1.1.1.1.0.now))
-accept-in-once κs a x y s t p q = equals p.value p.room q.value q.room
-
-pub accept-out-once : Once accept-out.Post (λ κs x s. x)
-accept-out-once κs a x y s t = equal
+pub accept-out-once : Once {B = Told × Pipe} accept-out.Post (λ κs x s. (x, s.0.now))
+accept-out-once κs a x y s t p q = equals p.value p.pipe q.value q.pipe
 
 -- ---- requests
 
-pub halt-once : Once halt.Post (λ κs x s. x)
+pub halt-once : Once halt.Post (λ κs x s. s.0.now)
 halt-once κs a x y s t = equal
 
 pub decide-once : Once decide.Post (λ κs x s. x)
@@ -90,24 +93,18 @@ refusal-once κs a x y s t = equal
 
 -- ---- answers
 
-pub write-once : Once {B = Verdict × List ℕ} write.Post (λ κs x s. (x, s.1.1.1.1.1.1.0.now))
+pub write-once : Once {B = Option Verdict × List ℕ} write.Post (λ κs x s. (x, s.1.1.1.0.now))
 write-once κs a x y s t p q = equals p.value p.buffer q.value q.buffer
 
 -- ---- effects
 
-pub pipe-once : Once pipe.Post (λ κs x s. x)
-pipe-once κs a x y s t = equal
+pub set-once : Once {B = Half × (Live × List ℕ)} set.Post (λ κs x s. (x, (s.0.now, s.1.1.1.1.1.0.now)))
+set-once κs a x y s t p q = three p.value p.live p.room q.value q.live q.room
 
-pub state-once : Once state.Post (λ κs x s. x)
-state-once κs a x y s t = equal
-
-pub set-once : Once {B = Half × List ℕ} set.Post (λ κs x s. (x, s.1.1.1.1.1.1.1.0.now))
-set-once κs a x y s t p q = equals p.value p.room q.value q.room
-
-pub tick-once : Once {B = Half × List ℕ} tick.Post (λ κs x s. (x, s.1.1.1.1.1.1.0.now))
-tick-once κs a x y s t p q = equals p.value p.room q.value q.room
+pub tick-once : Once {B = Half × (Live × List ℕ)} tick.Post (λ κs x s. (x, (s.0.now, s.1.1.1.1.0.now)))
+tick-once κs a x y s t p q = three p.value p.live p.room q.value q.live q.room
 
 -- ---- events
 
-pub handle-once : Once {B = Handled × (List ℕ × List ℕ)} handle.Post (λ κs x s. (x, (s.1.1.1.1.1.1.1.0.now, s.1.1.1.1.1.1.1.1.1.0.now)))
-handle-once κs a x y s t p q = three p.value p.buffer p.room q.value q.buffer q.room
+pub handle-once : Once {B = Handled × (Live × (List ℕ × List ℕ))} handle.Post (λ κs x s. (x, (s.1.1.0.now, (s.1.1.1.1.0.now, s.1.1.1.1.1.1.0.now))))
+handle-once κs a x y s t p q = three p.value p.live (equals p.buffer p.room refl refl) q.value q.live (equals q.buffer q.room refl refl)

@@ -8,7 +8,6 @@ use Rattle.common.specs.Bytes.{piece}
 use Rattle.control.specs.declared.Direction.TheVariants.{In}
 use Rattle.control.specs.declared.RequestType.TheVariants.{Standard}
 use Rattle.control.specs.declared.Recipient.TheVariants.{Device}
-use Rattle.control.specs.Setup.{parsed, direction_of}
 use Rattle.plan.specs.Planning.{bare}
 use Rattle.record.specs.declared.Record.{Record}
 use Rattle.record.specs.Filling.{bare as record_of}
@@ -20,7 +19,7 @@ use Rattle.control_pipe.specs.Stages.{zeros, begin_out, begin_by, begun, setup_c
 use Rattle.requests.specs.declared.State.{State}
 use Rattle.requests.specs.declared.State.TheVariants.{Addressed, Suspend}
 use Rattle.live.specs.declared.Live.{Live}
-use Rattle.live.specs.Live.{book_fine, coming_fine, reply_fine, pipe_fine, live_fine}
+use Rattle.live.specs.Live.{book_fine, live_fine}
 use Rattle.effects.specs.Effects.{ticked}
 use Rattle.events.specs.declared.Write.TheVariants.{Taken}
 use Rattle.events.specs.declared.Event.{Event}
@@ -74,7 +73,7 @@ abbrev tick : Event
 tick = Data (record { out = 0; done = 1; setup = 0; read = Block; write = Taken })
 
 pub five-told : let d = handled long eight (0 ∷ 0 ∷ 0 ∷ 0 ∷ 0 ∷ 0 ∷ 0 ∷ 1 ∷ []) [] (device Suspend Idle 0) zeros in length (told_by d.resumed d.first d.act d.second) ≡ 5
-unfolding handled happens data_come arrived setup_come begun parsed direction_of begin_by begin_out followed
+unfolding handled happens data_come arrived setup_come begun begin_by begin_out followed
 five-told = refl
 
 pub full-packet : let d = handled tick eight [] [] (device Addressed DataIn 0) zeros in (length d.packet ≡ eight.plan.basics.packet) × (writes (told_by d.resumed d.first d.act d.second) ≡ 1)
@@ -83,5 +82,5 @@ full-packet = (refl, refl)
 
 -- an address of 128 that is pending stays
 pub good-first : (live_fine (device Addressed Idle 127) ≡ true) × (live_fine (handled Nothing eight [] [] (device Addressed Idle 128) zeros).live ≡ false)
-unfolding handled happens live_fine book_fine pipe_fine coming_fine reply_fine
+unfolding handled happens live_fine book_fine
 good-first = (refl, refl)

@@ -36,9 +36,9 @@ unfolding step_refusal unfit live_fine
 usable d book room z =
     let l = d.live in
     let r = d.profile in
-    let fit = unfit r.plan r.ids r.lens l in
+    let fit = unfit r l in
     let t = three (eqb fit 0) (eqb (length book) l.book) (leb r.plan.basics.packet (length room)) z in
-    let f : live_fine l ≡ true = (both (live_fine l) (eqb (lowest r.plan r.ids r.lens) 0) (eqb-true fit 0 t.0)).0 in
+    let f : live_fine l ≡ true = (both (live_fine l) (eqb (lowest r) 0) (eqb-true fit 0 t.0)).0 in
     let a = and_left (l.built && book_fine l.book && state_fine l.kept.state l.before) (pipe_fine l.pipe l.book) f in
     let b = and_left (l.built && book_fine l.book) (state_fine l.kept.state l.before) a in
     record {
