@@ -1,36 +1,60 @@
-// A record at every limit: one of its numbers runs, and where the refusal becomes another, the number and the refusal are told.
-// What it prints is held to the file stdout, which was written from document 01.
+//! A record at every limit: one of its numbers runs, and where the refusal becomes another, the number and the refusal are told.
+//! What it prints is held to the file stdout, which was written from document 01.
 #![tactic(auto)]
-
-ghost use Rattle.std.specs.Prelude.{◌<◌};
 
 use control::EndpointAddress;
 use plan::{Basics, Endpoint, Interface, Kind, Plan};
 use record::{Name, Record};
 use std::io::{self, Write};
 
-// The places of a case's numbers; a step leads from an endpoint's address, or from a language, to the next.
-const PACKET: usize = 0;
+// The numbers of a case. A step leads from an endpoint's address, or from a language, to the next.
+#[derive(Clone, Copy)]
+struct Case {
+    packet: u8,
+    power: u8,
+    interfaces: u8,
+    endpoints: u8,
+    address: u8,
+    size: u8,
+    owner: u8,
+    languages: u8,
+    step: u8,
+    units: u8,
+}
 
-const POWER: usize = 1;
+// One endpoint, one language with a string of one unit: nothing refuses it.
+const GOOD: Case = Case {
+    packet: 8,
+    power: 50,
+    interfaces: 1,
+    endpoints: 1,
+    address: 0x81,
+    size: 64,
+    owner: 0,
+    languages: 1,
+    step: 1,
+    units: 1,
+};
 
-const INTERFACES: usize = 2;
+// The same with no string.
+const MUTE: Case = Case { units: 0, ..GOOD };
 
-const ENDPOINTS: usize = 3;
+// The same with a step of 0.
+const STILL: Case = Case {
+    address: 0x01,
+    step: 0,
+    ..GOOD
+};
 
-const ADDRESS: usize = 4;
-
-const SIZE: usize = 5;
-
-const OWNER: usize = 6;
-
-const LANGUAGES: usize = 7;
-
-const STEP: usize = 8;
-
-const UNITS: usize = 9;
-
-const NUMBERS: usize = 10;
+// All three rules broken.
+const BAD: Case = Case {
+    packet: 7,
+    power: 251,
+    interfaces: 0,
+    endpoints: 0,
+    languages: 0,
+    ..GOOD
+};
 
 fn bare(packet: u8, power: u8) -> Plan {
     Plan::new(Basics {
@@ -48,133 +72,151 @@ fn bare(packet: u8, power: u8) -> Plan {
     })
 }
 
-fn with_interfaces(plan: Plan, n: u8) -> Plan {
-    let x = Interface {
-        class: 0xff,
-        subclass: 0,
-        protocol: 0,
-    };
-    let mut p = plan;
-    for _ in 0..n {
-        p = p.with_interface(x);
+fn planned(case: &Case) -> Plan {
+    let mut plan = bare(case.packet, case.power);
+    for _ in 0..case.interfaces {
+        plan = plan.with_interface(Interface {
+            class: 0xff,
+            subclass: 0,
+            protocol: 0,
+        });
     }
-    p
+    let mut address = case.address;
+    for _ in 0..case.endpoints {
+        plan = plan.with_endpoint(Endpoint {
+            address: EndpointAddress(address),
+            kind: Kind::Bulk,
+            size: case.size,
+            interval: 0,
+            interface: case.owner,
+        });
+        address = address % 128 + case.step % 128;
+    }
+    plan
 }
 
-// So many endpoints, a step from one address to the next.
-fn with_endpoints(plan: Plan, first: Endpoint, n: u8, step: u8) -> Plan {
-    let mut p = plan;
-    let mut e = first;
-    for _ in 0..n {
-        p = p.with_endpoint(e);
-        let a = EndpointAddress(e.address.0 % 128 + step % 128);
-        e.address = a;
-    }
-    p
-}
-
-// So many languages, a step from one to the next.
-fn with_languages(plan: Plan, n: u8, step: u16) -> Record {
-    let mut r = Record::new(plan);
+// With a string of the language that was added last; of 0 units, none.
+fn spoken(case: &Case) -> Record {
+    let mut record = Record::new(planned(case));
     let mut id: u16 = 0;
-    for _ in 0..n {
-        r = r.with_language(id);
-        id = id % 256 + step % 256;
+    for _ in 0..case.languages {
+        record = record.with_language(id);
+        id = id % 256 + case.step as u16;
     }
-    r
-}
-
-fn planned(c: [u8; NUMBERS]) -> Plan {
-    let p = with_interfaces(bare(c[PACKET], c[POWER]), c[INTERFACES]);
-    let first = Endpoint {
-        address: EndpointAddress(c[ADDRESS]),
-        kind: Kind::Bulk,
-        size: c[SIZE],
-        interval: 0,
-        interface: c[OWNER],
-    };
-    with_endpoints(p, first, c[ENDPOINTS], c[STEP])
-}
-
-// A string of n units; of 0, none.
-fn with_units(r: Record, text: &[u16], n: usize) -> Record {
-    if n == 0 {
-        return r;
+    match [0x20u16; 32].get(..case.units as usize) {
+        Some(text) if case.units != 0 => record.with_string(Name::Serial, text),
+        _ => record,
     }
-    if text.len() < n {
-        return r;
+}
+
+// The number that refuses the record of a case; 0 for none.
+fn number(case: &Case) -> u8 {
+    match limits::check(&spoken(case)) {
+        Ok(()) => 0,
+        Err(why) => why.number(),
     }
-    r.with_string(Name::Serial, &text[..n])
 }
 
-// The number that refuses the record of a case.
-fn number(c: [u8; NUMBERS]) -> u8 {
-    let spoken = with_languages(planned(c), c[LANGUAGES], c[STEP] as u16);
-    let r = with_units(spoken, &[0x20u16; 32], c[UNITS] as usize);
-    let plan = r.plan;
-    limits::broken(plan, &r.ids, &r.lens).number()
-}
-
-// Says where an answer is another than the last one, and what it is.
-fn tell<R: Print>(rt: &R, n: u16, last: u8, answer: u8) -> io::Result<u8> {
-    if answer != last {
-        print!(rt; "{n}:{answer} ")?;
-    }
-    Ok(answer)
-}
-
-// A number of a case runs from `low` to below `end`.
-fn row<R: Print>(
-    rt: &R,
-    name: &[u8],
-    what: usize,
-    low: u16,
-    end: u16,
-    case: [u8; NUMBERS],
-) -> io::Result<()>
-    requires { what < 10 }
+// A number of a case runs from 0 to `end`: where an answer is another than the one before, it is told.
+fn row<R: Print, F: Fn(u8) -> Case>(rt: &R, name: &str, end: u8, case: F) -> io::Result<()>
+    requires { F.IsAlwaysCallable case }
 {
-    let mut c = case;
-    let mut last: u8 = 255;
-    for n in low..end {
-        c[what] = (n % 256) as u8;
-        last = tell(rt, n, last, number(c))?;
+    let mut last = None;
+    for n in 0..=u16::from(end) {
+        let answer = number(&case(n as u8));
+        if last != Some(answer) {
+            print!(rt; "{n}:{answer} ")?;
+            last = Some(answer);
+        }
     }
-    io::writer(rt).write_all(name)
+    println!(rt; "{name}")
 }
-
-// One endpoint, one language with a string of one unit: nothing refuses it.
-const GOOD: [u8; NUMBERS] = [8, 50, 1, 1, 0x81, 64, 0, 1, 1, 1];
-
-// The same with no string; with a step of 0; and with all three rules broken.
-const MUTE: [u8; NUMBERS] = [8, 50, 1, 1, 0x81, 64, 0, 1, 1, 0];
-
-const STILL: [u8; NUMBERS] = [8, 50, 1, 1, 0x01, 64, 0, 1, 0, 1];
-
-const BAD: [u8; NUMBERS] = [7, 251, 0, 0, 0x81, 64, 0, 0, 1, 1];
 
 // Refusals 1 and 2.
 fn plans<R: Print>(rt: &R) -> io::Result<()> {
-    row(rt, b"packet sizes\n", PACKET, 0, 256, GOOD)?;
-    row(rt, b"powers\n", POWER, 0, 256, GOOD)?;
-    row(rt, b"interfaces\n", INTERFACES, 0, 6, MUTE)?;
-    row(rt, b"endpoints\n", ENDPOINTS, 0, 10, GOOD)?;
-    row(rt, b"packet sizes, all rules broken\n", PACKET, 0, 256, BAD)
+    row(rt, "packet sizes", 255, |n| Case { packet: n, ..GOOD })?;
+    row(rt, "powers", 255, |n| Case { power: n, ..GOOD })?;
+    row(
+        rt,
+        "interfaces",
+        5,
+        |n| Case {
+            interfaces: n,
+            ..MUTE
+        },
+    )?;
+    row(
+        rt,
+        "endpoints",
+        9,
+        |n| Case {
+            endpoints: n,
+            ..GOOD
+        },
+    )?;
+    row(
+        rt,
+        "packet sizes, all rules broken",
+        255,
+        |n| Case { packet: n, ..BAD },
+    )
 }
 
 fn endpoints<R: Print>(rt: &R) -> io::Result<()> {
-    row(rt, b"endpoint addresses\n", ADDRESS, 0, 256, GOOD)?;
-    row(rt, b"endpoint sizes\n", SIZE, 0, 256, GOOD)?;
-    row(rt, b"interfaces of an endpoint\n", OWNER, 0, 256, GOOD)?;
-    row(rt, b"endpoints of one address\n", ENDPOINTS, 0, 3, STILL)
+    row(
+        rt,
+        "endpoint addresses",
+        255,
+        |n| Case { address: n, ..GOOD },
+    )?;
+    row(rt, "endpoint sizes", 255, |n| Case { size: n, ..GOOD })?;
+    row(
+        rt,
+        "interfaces of an endpoint",
+        255,
+        |n| Case { owner: n, ..GOOD },
+    )?;
+    row(
+        rt,
+        "endpoints of one address",
+        2,
+        |n| Case {
+            endpoints: n,
+            ..STILL
+        },
+    )
 }
 
 // Refusal 3.
 fn languages<R: Print>(rt: &R) -> io::Result<()> {
-    row(rt, b"languages\n", LANGUAGES, 0, 6, MUTE)?;
-    row(rt, b"languages, one with a string\n", LANGUAGES, 0, 6, GOOD)?;
-    row(rt, b"languages of one number\n", LANGUAGES, 0, 3, STILL)?;
-    row(rt, b"units of a string\n", UNITS, 0, 33, GOOD)
+    row(
+        rt,
+        "languages",
+        5,
+        |n| Case {
+            languages: n,
+            ..MUTE
+        },
+    )?;
+    row(
+        rt,
+        "languages, one with a string",
+        5,
+        |n| Case {
+            languages: n,
+            ..GOOD
+        },
+    )?;
+    row(
+        rt,
+        "languages of one number",
+        2,
+        |n| Case {
+            languages: n,
+            ..STILL
+        },
+    )?;
+    row(rt, "units of a string", 32, |n| Case { units: n, ..GOOD })
 }
 
 fn main(rt: HostRuntime) -> io::Result<()> {
