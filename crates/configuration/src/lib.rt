@@ -14,15 +14,17 @@ use descriptor::{Written, counted, word_bytes};
 use plan::{Endpoint, Interface, Kind, Plan};
 use record::Record;
 
-/// The bytes of a configuration descriptor without its interfaces, of an interface's own, and of an endpoint's.
+/// How many bytes a configuration descriptor has without its interfaces.
 pub const CONFIGURATION: usize = 9;
 
+/// How many bytes an interface descriptor has without its endpoints.
 pub const INTERFACE: usize = 9;
 
+/// How many bytes an endpoint descriptor has.
 pub const ENDPOINT: usize = 7;
 
-/// The configuration descriptor with its interfaces and their endpoints (USB 2.0 sections 9.6.3, 9.6.5 and 9.6.6) at place `at` of a
-/// lent buffer.
+/// The configuration descriptor with its interfaces and their endpoints (USB 2.0 sections 9.6.3, 9.6.5 and 9.6.6) at place
+/// `at` of a lent buffer.
 pub fn write(profile: &Record, buf: &mut [u8], at: usize) -> Written
     ensures { Wrote result buf.new (lowest profile.now) (Some (configuration_bytes profile.now.plan)) buf.old at }
 {

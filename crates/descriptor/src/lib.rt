@@ -12,10 +12,11 @@ ghost use Rattle.descriptor.specs.Writing.{Put, Wrote};
 use common::Refusal;
 use record::{Language, Name, Record};
 
-/// How a call ends: so many bytes were written, there is no such string, or it was refused.
+/// How a call that writes a descriptor ends: so many bytes were written; `None`: there is no such string, and none was
+/// written; or it was refused, by the record's own number (1, 2 or 3) or since the room left is less than the answer (12).
 pub type Written = Result<Option<usize>, Refusal>;
 
-/// The bytes of a device descriptor.
+/// How many bytes a device descriptor has.
 pub const DEVICE: usize = 18;
 
 // A whole answer, or refusal 12 and nothing.

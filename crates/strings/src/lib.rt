@@ -40,8 +40,8 @@ impl Word for Language {
     }
 }
 
-/// A string descriptor (USB 2.0 section 9.6.7) at place `at` of a lent buffer: number 0 lists the languages, 1 to 3 are a
-/// language's names.
+/// A string descriptor (USB 2.0 section 9.6.7) at place `at` of a lent buffer: number 0 lists the languages, 1 to 3 are the
+/// names of a language, which goes by its identifier. `None` where the record has no such string.
 pub fn write(profile: &Record, number: u8, language: u16, buf: &mut [u8], at: usize) -> Written
     ensures { Wrote result buf.new (lowest profile.now) (string_of profile.now number language) buf.old at }
 {

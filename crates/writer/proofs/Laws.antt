@@ -9,9 +9,9 @@ use lib.Dec.{eqb}
 use lib.ListN.{length}
 use Rattle.std.specs.Prelude.{Option, Some, None, Ok, Err, unwrap_or}
 use Rattle.common.specs.Bytes.{inside}
-use Rattle.common.proofs.Laws.{cond-elim, length-placed}
+use Rattle.common.proofs.Laws.{cond-elim}
 use Rattle.record.specs.declared.Record.{Record}
-use Rattle.descriptor.specs.Writing.{Written, put_answer, put_buffer, wrote_answer, wrote_buffer}
+use Rattle.descriptor.specs.Writing.{Written, put_answer, wrote_answer}
 use Rattle.descriptor.specs.Device.{device_bytes}
 use Rattle.configuration.specs.Configuration.{configuration_bytes}
 use Rattle.strings.specs.Strings.{string_of}
@@ -67,15 +67,3 @@ module _ (number : ℕ) (o : Option (List ℕ)) (buf : List ℕ) (at : ℕ) wher
   pub fits-bytes : {w : Written} {b : Option ℕ} → w ≡ Ok b → w ≡ wrote_answer number o buf at → at < 2 ^ 64 → length buf < 2 ^ 64 → at + unwrap_or b 0 < 2 ^ 64
   fits-bytes {b = None} e k h l = rw (add-zero at) h
   fits-bytes {b = Some n} e k h l = let f : at + n ≤ length buf = told-fits e k in omega arith
-
-  -- a write leaves the buffer's length
-  abbrev Same : List ℕ → Type 0
-  Same l = length l ≡ length buf
-
-  pub length-wrote : length (wrote_buffer number o buf at) ≡ length buf
-  unfolding wrote_buffer put_buffer
-  length-wrote = cond-elim Same (eqb number 0) _ _ (λ z. by o) (λ z. refl)
-    where
-      by : (o : Option (List ℕ)) → Same (put_buffer o buf at)
-      by None = refl
-      by (Some b) = cond-elim Same (inside buf at (length b)) _ _ (λ f. length-placed buf b at (leb-true (at + length b) (length buf) f)) (λ f. refl)

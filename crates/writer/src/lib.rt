@@ -12,11 +12,14 @@ ghost use Rattle.writer.specs.Appending.{begun, appended, Position};
 use descriptor::Written;
 use record::Record;
 
-/// The descriptor that a request names (USB 2.0 section 9.4.3): wValue's type and index, and wIndex.
+/// The descriptor that a request names (USB 2.0 section 9.4.3).
 #[derive(Clone, Copy, Debug, PartialEq, Eq)]
 pub struct Which {
+    /// The descriptor's type, wValue's high byte.
     pub kind: u8,
+    /// The number of a string, wValue's low byte; no other type looks at it.
     pub index: u8,
+    /// The identifier of a string's language, wIndex; no other type looks at it.
     pub language: u16,
 }
 
@@ -36,7 +39,7 @@ impl<'a> Writer<'a> {
         Writer { buf, at: 0 }
     }
 
-    /// Appends a descriptor whole, or not at all.
+    /// Appends a descriptor whole, or not at all: then the position stays and no byte changes.
     pub fn append(&mut self, profile: &Record, which: Which) -> Written
         ensures written { result ≡ wrote_answer (lowest profile.now) (asked profile.now which) self.old.buf.now self.old.at }
         ensures writer { self.new ≡ appended self.old (lowest profile.now) (asked profile.now which) }
@@ -69,7 +72,7 @@ fn put(profile: &Record, which: Which, buf: &mut [u8], at: usize) -> Written
     }
 }
 
-/// A descriptor at the start of a buffer, by a writer that lasts for the call.
+/// A descriptor at the start of a buffer, by a writer that lasts for the call. Where none is written, no byte changes.
 pub fn fill(profile: &Record, which: Which, buf: &mut [u8]) -> Written
     ensures { Wrote result buf.new (lowest profile.now) (asked profile.now which) buf.old 0 }
 {
