@@ -1,17 +1,14 @@
 -- Document 01, module 5 (event records): one device stepped through a stream of them, a trace entry for each.
-use Rattle.std.specs.Prelude.{ℕ, zero, suc, ◌+◌, ◌/◌, ◌%◌, min, cond, List, [], ◌++◌, ◌≡◌, eqb, length, take, drop, replicate}
+use Rattle.std.specs.Prelude.{ℕ, zero, suc, ◌+◌, ◌/◌, ◌%◌, min, ⊤, cond, List, [], ◌++◌, ◌≡◌, Result, Ok, Err, Option, Some, None, eqb, length, take, drop, replicate}
 use Rattle.common.specs.Bytes.{part, placed}
-use Rattle.common.specs.Refusals.{number_of, refusal}
-use Rattle.record.specs.declared.Record.{Record}
-use Rattle.live.specs.declared.Live.{Live}
+use Rattle.common.specs.Refusals.{number_of, unless, stop}
+use Rattle.common.specs.declared.Refusal.{Refusal}
 use Rattle.device.specs.declared.Device.{Device}
-use Rattle.device.specs.Device.{refused_by, step_of, room_of}
+use Rattle.device.specs.declared.Polled.{Polled}
+use Rattle.device.specs.Device.{step_of, room_of}
 use Rattle.records.specs.declared.Happening.{Happening}
-use Rattle.records.specs.declared.Known.{Known}
-use Rattle.records.specs.declared.Known.TheVariants.{Good, Refused}
 use Rattle.records.specs.Records.{known_of}
 use Rattle.records.specs.Sizes.{event_room, head_room, packet_room}
-use Rattle.stream.specs.declared.One.{One}
 use Rattle.stream.specs.declared.Ran.{Ran}
 use Rattle.stream.specs.Trace.{entry_room, entry_of}
 
@@ -25,19 +22,21 @@ pub record Turn : Type 0 where
   pub entry : List ℕ
   pub number : ℕ
 
+-- of what a step says, of the device then and of the room
+unfoldable pub turn_of : Result Polled Refusal → Device → List ℕ → Turn
+turn_of (Ok p) d room = record { device = d; entry = entry_of d.live.kept.state p room; number = 0 }
+turn_of (Err why) d room = record { device = d; entry = []; number = number_of why }
+
 -- a step with the record's event and packet
 unfoldable pub turned : Device → List ℕ → Happening → List ℕ → Turn
 turned d book h s =
     let packet = part head_room h.length s in
     let x = step_of d book h.event packet clean in
-    let n = refused_by d book clean in
-    cond (eqb n 0)
-    (record { device = x.device; entry = entry_of x.device.live.kept.state x.polled (room_of d book h.event packet clean); number = 0 })
-    (record { device = d; entry = []; number = n })
+    turn_of x.said x.device (room_of d book h.event packet clean)
 
-unfoldable pub turn_by : Known → Device → List ℕ → List ℕ → Turn
-turn_by (Good h) d book s = turned d book h s
-turn_by (Refused why) d book s = record { device = d; entry = []; number = number_of why }
+unfoldable pub turn_by : Result Happening Refusal → Device → List ℕ → List ℕ → Turn
+turn_by (Ok h) d book s = turned d book h s
+turn_by (Err why) d book s = record { device = d; entry = []; number = number_of why }
 
 abbrev pub turn : Device → List ℕ → List ℕ → Turn
 turn d book s = turn_by (known_of s) d book s
@@ -70,23 +69,24 @@ turns_by events trace = min (trace / entry_room) (events / event_room + cond (eq
 unfoldable pub run_of : Device → List ℕ → List ℕ → List ℕ → Run
 run_of d book events trace = runs (turns_by (length events) (length trace)) d book events
 
+-- the number of what stops a run, or 0
+abbrev pub stop_number : Option Refusal → ℕ
+stop_number None = 0
+stop_number (Some why) = number_of why
+
 -- ---- what the code promises
 
 abbrev pub ran_of : Run → Ran
-ran_of r = record { device = r.device; count = r.count; refusal = refusal r.number }
+ran_of r = record { count = r.count; stop = stop r.number }
 
 -- the entries at the front of the trace, nothing behind them changed
-pub record Running (r : Ran) (exit : List ℕ) (x : Run) (entry : List ℕ) : Type 0 where
+pub record Running (r : Ran) (after : Device) (exit : List ℕ) (x : Run) (entry : List ℕ) : Type 0 where
   pub value : r ≡ ran_of x
+  pub device : after ≡ x.device
   pub trace : exit ≡ placed entry 0 x.bytes
 
--- a device in its parts
-abbrev pub device_of : Record → Live → List ℕ → Device
-device_of r l b = record { profile = r; live = l; buffer = b }
-
--- of one record: its live part, buffer and trace
-pub record Turning (r : One) (buffer trace : List ℕ) (t : Turn) (entry : List ℕ) (at : ℕ) : Type 0 where
-  pub live : r.live ≡ t.device.live
-  pub why : r.refusal ≡ refusal t.number
-  pub held : buffer ≡ t.device.buffer
-  pub written : trace ≡ placed entry at t.entry
+-- of one record: the device then, and its entry where it is not refused
+pub record Turning (r : Result ⊤ Refusal) (after : Device) (exit : List ℕ) (t : Turn) (entry : List ℕ) : Type 0 where
+  pub value : r ≡ unless t.number tt
+  pub device : after ≡ t.device
+  pub written : exit ≡ placed entry 0 t.entry

@@ -2,7 +2,7 @@
 -- actions as a code and an argument, then the packet that was written, zero-filled to 64.
 use Rattle.std.specs.Prelude.{ℕ, ◌/◌, ◌%◌, cond, List, [], ◌∷◌, ◌++◌}
 use Rattle.requests.specs.declared.State.{State}
-use Rattle.requests.specs.declared.State.TheVariants.{Default, Addressed, Configured, Suspend as Suspended}
+use Rattle.requests.specs.Codes.{state_code}
 use Rattle.effects.specs.declared.Action.{Action}
 use Rattle.effects.specs.declared.Action.TheVariants.{Nothing, Resume, Suspend, Reset, UnstallOut, UnstallIn, StallOut, StallIn, Halt, Unhalt, Address, Write, Refused}
 use Rattle.actions.specs.declared.Actions.{Actions}
@@ -13,13 +13,6 @@ entry_room = 82
 
 abbrev pub top_room : ℕ
 top_room = 18
-
--- D A C S
-abbrev pub state_code : State → ℕ
-state_code Default = 0
-state_code Addressed = 1
-state_code Configured = 2
-state_code Suspended = 3
 
 abbrev pub action_code : Action → ℕ
 action_code Nothing = 0
@@ -61,7 +54,8 @@ action_bytes a = action_code a ∷ argument_of a ∷ []
 abbrev pub actions_bytes : Actions → List ℕ
 actions_bytes a = action_bytes a.first ++ action_bytes a.second ++ action_bytes a.third ++ action_bytes a.fourth ++ action_bytes a.fifth
 
-unfoldable pub top_bytes : State → Polled → List ℕ
+-- the state's code: D A C S
+abbrev pub top_bytes : State → Polled → List ℕ
 top_bytes s p = state_code s ∷ cond p.answer 1 0 ∷ (word_bytes p.masks.setup ++ word_bytes p.masks.out ++ word_bytes p.masks.done ++ actions_bytes p.actions)
 
 -- an entry, from the state after a step, what the step said, and a room of 64 zero bytes as the step left it

@@ -1,26 +1,56 @@
-use Prim.Native.Nat.{ℕ, ◌*◌, ◌<◌, zero-le}
-use mathlib.Core.Path.{refl, sym, subst}
-use native.Mathlib.Omega.{arith}
-use lib.ListN.{length}
+use Rattle.std.proofs.Common.{◌≡◌, refl, ◌+◌, ◌-◌, ◌*◌, sym, ◌∙◌, arith}
 use Rattle.common.proofs.Laws.{placed-nil}
-use Rattle.records.specs.Sizes.{event_room}
 use Rattle.stream.specs.Stream.{run_of}
-use Rattle.stream.proofs.Laws.{whole-turns, whole-bounds, slice-event, run-start, run-refused, run-again, run-fit, run-ended}
+use Rattle.stream.proofs.Laws.{bounds, slice-event, run-start, run-refused, run-again, run-ended}
 use Rattle.stream.proofs.run.Goals as goal
 
 pub loop-i-init : goal.loop-i-init
-loop-i-init c = (run-start _ _ _ _ c.args.trace.now, sym (placed-nil _ 0), refl, zero-le, c.step_refusal-why.ensures)
+loop-i-init c = record { whole = run-start _ _ _ _ c.args.trace.now; front = sym (placed-nil _ 0); fit = c.check_step-fit.ensures }
 
-pub single-o-requires : goal.single-o-requires
-single-o-requires c = let a = c.args in let w = c.loop-i in let l = subst (λ (k : ℕ). w.i < k) (whole-turns _ _ c.whole-n.ensures c.turns-all.ensures) c.loop-i-test.true in let g = whole-bounds (length a.events.now) (length a.trace.now) w.i l in (omega (arith, g.2, w.invariant.2), w.invariant.4)
+pub overflow_mul-rest : goal.overflow_mul-rest
+overflow_mul-rest c = let a = c.args in let b = bounds a.events.now a.trace.now c.loop-i.trace c.turns-turns.ensures c.loop-i-test.true c.loop-i.auto.trace in omega (arith, b.0)
 
-pub returns-then-number-ne0 : goal.returns-then-number-ne0
+pub slice_bounds-rest-count : goal.slice_bounds-rest-count
+slice_bounds-rest-count c = let a = c.args in let b = bounds a.events.now a.trace.now c.loop-i.trace c.turns-turns.ensures c.loop-i-test.true c.loop-i.auto.trace in omega (arith, b.0)
+
+pub slice_bounds-rest-start : goal.slice_bounds-rest-start
+slice_bounds-rest-start c = let a = c.args in let b = bounds a.events.now a.trace.now c.loop-i.trace c.turns-turns.ensures c.loop-i-test.true c.loop-i.auto.trace in omega (arith, b.0)
+
+pub overflow_mul-entry : goal.overflow_mul-entry
+overflow_mul-entry c = let a = c.args in let b = bounds a.events.now a.trace.now c.loop-i.trace c.turns-turns.ensures c.loop-i-test.true c.loop-i.auto.trace in omega (arith, b.1)
+
+pub overflow_mul-entry-in-loop-i : goal.overflow_mul-entry-in-loop-i
+overflow_mul-entry-in-loop-i c = let a = c.args in let b = bounds a.events.now a.trace.now c.loop-i.trace c.turns-turns.ensures c.loop-i-test.true c.loop-i.auto.trace in omega (arith, b.1)
+
+pub overflow_add-entry : goal.overflow_add-entry
+overflow_add-entry c = let a = c.args in let b = bounds a.events.now a.trace.now c.loop-i.trace c.turns-turns.ensures c.loop-i-test.true c.loop-i.auto.trace in omega (arith, b.1)
+
+pub slice_bounds-entry-end : goal.slice_bounds-entry-end
+slice_bounds-entry-end c = let a = c.args in let b = bounds a.events.now a.trace.now c.loop-i.trace c.turns-turns.ensures c.loop-i-test.true c.loop-i.auto.trace in omega (arith, b.1)
+
+pub returns-in-Err : goal.returns-in-Err
 unfolding run_of
-returns-then-number-ne0 c = let a = c.args in let w = c.loop-i in let l = subst (λ (k : ℕ). w.i < k) (whole-turns _ _ c.whole-n.ensures c.turns-all.ensures) c.loop-i-test.true in let g = whole-bounds (length a.events.now) (length a.trace.now) w.i l in let k = rw (slice-event a.events.now (event_room * w.i)) at c.single-o.ensures in rw (← c.turns-all.ensures) (run-refused a.book.now a.events.now a.trace.now a.device _ w.i a.device.profile w.live w.buffer w.trace w.invariant.0 w.invariant.1 (subst (λ (k : ℕ). w.i < k) (sym c.turns-all.ensures) g.0) k c.number.ensures c.if-number-ne0.true c.ended.ensures)
+returns-in-Err c =
+    let a = c.args in
+    let w = c.loop-i in
+    let b = bounds a.events.now a.trace.now w.trace c.turns-turns.ensures c.loop-i-test.true w.auto.trace in
+    let s = slice-event a.events.now (80 * w.i) c.min.ensures in
+    let e : 82 * w.i + 82 - 82 * w.i ≡ 82 = omega arith in
+    let t = rw (s, e) at c.turn.ensures in
+    rw (← c.turns-turns.ensures, e) (run-refused a.book.now a.events.now a.trace.now a.device.now w.device _ w.i w.trace w.invariant.whole w.invariant.front c.loop-i-test.true t refl b.1 c.in-Err.is refl)
 
 pub loop-i-preserved : goal.loop-i-preserved
-loop-i-preserved c = let a = c.args in let w = c.loop-i in let l = subst (λ (k : ℕ). w.i < k) (whole-turns _ _ c.whole-n.ensures c.turns-all.ensures) c.loop-i-test.true in let g = whole-bounds (length a.events.now) (length a.trace.now) w.i l in let k = rw (slice-event a.events.now (event_room * w.i)) at c.single-o.ensures in let x = run-again a.book.now a.events.now a.trace.now a.device _ w.i a.device.profile w.live w.buffer w.trace w.invariant.0 w.invariant.1 (subst (λ (k : ℕ). w.i < k) (sym c.turns-all.ensures) g.0) k c.number.ensures c.if-number-ne0.false w.invariant.2 g.2 in let y = run-fit a.book.now a.events.now a.trace.now a.device _ w.i a.device.profile w.live w.buffer w.trace w.invariant.0 w.invariant.1 (subst (λ (k : ℕ). w.i < k) (sym c.turns-all.ensures) g.0) k c.number.ensures c.if-number-ne0.false w.invariant.4 in (x.0, x.1, x.2, omega (arith, c.loop-i-test.true), y)
+loop-i-preserved c =
+    let a = c.args in
+    let w = c.loop-i in
+    let b = bounds a.events.now a.trace.now w.trace c.turns-turns.ensures c.loop-i-test.true w.auto.trace in
+    let s = slice-event a.events.now (80 * w.i) c.min.ensures in
+    let e : 82 * w.i + 82 - 82 * w.i ≡ 82 = omega arith in
+    let t = rw (s, e) at c.turn.ensures in
+    let x = run-again a.book.now a.events.now a.trace.now a.device.now w.device _ w.i w.trace w.invariant.whole w.invariant.front c.loop-i-test.true t refl b.1 c.in_default.is w.auto.trace in
+    rw e (record { whole = x.0; front = x.1; fit = w.invariant.fit ∙ x.3 })
 
 pub returns : goal.returns
 unfolding run_of
-returns c = let a = c.args in let w = c.loop-i in rw (← c.turns-all.ensures) (run-ended a.book.now a.events.now a.trace.now a.device _ w.i a.device.profile w.live w.buffer w.trace w.invariant.0 w.invariant.1 c.whole-n.ensures c.loop-i-test.false w.invariant.3 c.last.ensures c.ended-2.ensures)
+returns c = let a = c.args in let w = c.loop-i in
+    rw (← c.turns-turns.ensures) (run-ended a.book.now a.events.now a.trace.now a.device.now w.device _ w.i w.trace w.invariant.whole w.invariant.front w.auto.i-end c.loop-i-test.false)
