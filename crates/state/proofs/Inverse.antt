@@ -10,11 +10,12 @@ use lib.Dec.{eqb}
 use lib.ListN.{length, drop, length-append, length-drop, drop_of_length-le}
 use lib.Seq.{take_all}
 use Rattle.common.specs.Bytes.{part, placed}
-use Rattle.common.specs.Refusals.{refusal, number_of}
+use Rattle.std.specs.Prelude.{Result, Ok, Err}
+use Rattle.common.specs.Refusals.{refusal}
+use Rattle.common.specs.declared.Refusal.{Refusal}
 use Rattle.common.proofs.Laws.{and_left, and_right}
 use Rattle.control_pipe.specs.Sizes.{buffer_room}
 use Rattle.device.specs.declared.Device.{Device}
-use Rattle.device.specs.declared.Built.{Built}
 use Rattle.record_bytes.specs.Layout.{record_size, record_bytes, record_coded}
 use Rattle.record_bytes.proofs.Lengths.{record-length}
 use Rattle.record_bytes.proofs.Numbers.{Small, both}
@@ -22,7 +23,7 @@ use Rattle.record_bytes.proofs.Inverse.{part-skip, part-here, length-of-part, sm
 use Rattle.live_bytes.specs.Layout.{live_size, live_bytes, live_coded}
 use Rattle.live_bytes.proofs.Lengths.{live-length}
 use Rattle.live_bytes.proofs.Inverse.{live_back, live-coded, live-forth}
-use Rattle.state.specs.State.{Whole, buffer_place, state_size, bytes_of, device_of, state_coded, blank, read_of, kept}
+use Rattle.state.specs.State.{Whole, buffer_place, state_size, bytes_of, device_of, state_coded, read_of, kept}
 
 module _ (d : Device) (w : Whole d) where
   abbrev R : List ℕ
@@ -63,8 +64,7 @@ module _ (d : Device) (w : Whole d) where
       (ap live_coded live_here ∙ live-coded d.live)
 
   -- every device that is written is read back, and with no refusal
-  pub written_read : read_of (bytes_of d) ≡ record { device = d; refusal = refusal 0 }
-  unfolding read_of
+  pub written_read : read_of (bytes_of d) ≡ Ok d
   written_read = rw (state-coded, state-back)
 
 -- bytes that are read without refusal are those that the device is written as; so all others are refusal 9
@@ -79,19 +79,16 @@ state-forth s m e =
     let k : length (drop buffer_place s) ≤ buffer_room = rw (length-drop buffer_place s) (omega (arith, n)) in
     stitch s 0 record_size r (stitch s record_size live_size l (take_all buffer_room (drop buffer_place s) k))
 
-pub read-written : (s : List ℕ) → Small s → number_of (read_of s).refusal ≡ 0 → bytes_of (read_of s).device ≡ s
-unfolding read_of
-read-written s m = by_code (state_coded s) refl
+pub read-written : (s : List ℕ) (d : Device) → Small s → read_of s ≡ Ok d → bytes_of d ≡ s
+read-written s d m = by_code (state_coded s) refl
   where
-    by_code : (b : Bool) → state_coded s ≡ b
-        → number_of (cond {A = Built} b (record { device = device_of s; refusal = refusal 0 }) (record { device = blank; refusal = refusal 9 })).refusal ≡ 0
-        → bytes_of (cond {A = Built} b (record { device = device_of s; refusal = refusal 0 }) (record { device = blank; refusal = refusal 9 })).device ≡ s
-    by_code true e z = state-forth s m e
-    by_code false e z = absurd (let k : ◌≡◌ {A = ℕ} 9 0 = z in omega (arith, k))
+    by_code : (b : Bool) → state_coded s ≡ b → cond {A = Result Device Refusal} b (Ok (device_of s)) (Err (refusal 9)) ≡ Ok d → bytes_of d ≡ s
+    by_code true e z = let k : d ≡ device_of s = grind (arith, z) in ap bytes_of k ∙ state-forth s m e
+    by_code false e z = absurd (grind (arith, z))
 
 -- a live part and a buffer kept in the state of a device's record are that device's state
 pub kept-written : (d : Device) (s : List ℕ) → Small s → state_coded s ≡ true → d.profile ≡ (device_of s).profile → length d.buffer ≡ buffer_room → kept d.live d.buffer s ≡ bytes_of d
-unfolding kept bytes_of device_of state_coded placed
+unfolding bytes_of device_of state_coded placed
 kept-written d s m e p b =
     let x = record_coded (part 0 record_size s) in
     let y = live_coded (part record_size live_size s) in

@@ -1,12 +1,11 @@
 -- A device as 1005 bytes: its record (833), what it holds beside it (44), and its buffer (128).
-use Rattle.std.specs.Prelude.{ℕ, ◌+◌, Bool, cond, ◌&&◌, List, ◌++◌, ◌≡◌, eqb, length, replicate}
+use Rattle.std.specs.Prelude.{ℕ, ◌+◌, Bool, cond, ◌&&◌, List, ◌++◌, ◌≡◌, true, ⊤, Result, Ok, Err, eqb, length}
 use Rattle.common.specs.Bytes.{part, placed}
-use Rattle.common.specs.Refusals.{refusal}
+use Rattle.common.specs.Refusals.{refusal, unless}
 use Rattle.common.specs.declared.Refusal.{Refusal}
 use Rattle.control_pipe.specs.Sizes.{buffer_room}
 use Rattle.live.specs.declared.Live.{Live}
 use Rattle.device.specs.declared.Device.{Device}
-use Rattle.device.specs.declared.Built.{Built}
 use Rattle.record_bytes.specs.Layout.{record_size, record_bytes, record_of, record_coded}
 use Rattle.record_bytes.specs.Shape.{Shaped}
 use Rattle.live_bytes.specs.Layout.{live_size, live_bytes, live_of, live_coded}
@@ -28,27 +27,30 @@ device_of s = record { profile = record_of (part 0 record_size s); live = live_o
 unfoldable pub state_coded : List ℕ → Bool
 state_coded s = eqb (length s) state_size && record_coded (part 0 record_size s) && live_coded (part record_size live_size s)
 
--- what stands in the place of a device where there is none: every byte 0
-abbrev pub blank : Device
-blank = record { profile = record_of (replicate record_size 0); live = live_of (replicate live_size 0); buffer = replicate buffer_room 0 }
+-- the parts of bytes that some device is written as
+pub record Parted (r l b s : List ℕ) : Type 0 where
+  pub coded : state_coded s ≡ true
+  pub profile : r ≡ part 0 record_size s
+  pub live : l ≡ part record_size live_size s
+  pub buffer : b ≡ part buffer_place buffer_room s
 
 -- bytes that no device is written as are refusal 9
-unfoldable pub read_of : List ℕ → Built
-read_of s = cond (state_coded s) (record { device = device_of s; refusal = refusal 0 }) (record { device = blank; refusal = refusal 9 })
+abbrev pub read_of : List ℕ → Result Device Refusal
+read_of s = cond (state_coded s) (Ok (device_of s)) (Err (refusal 9))
 
 -- so is a room of another length
-unfoldable pub wrote_of : List ℕ → ℕ
+abbrev pub wrote_of : List ℕ → ℕ
 wrote_of s = cond (eqb (length s) state_size) 0 9
 
-unfoldable pub wrote : Device → List ℕ → List ℕ
+abbrev pub wrote : Device → List ℕ → List ℕ
 wrote d s = cond (eqb (length s) state_size) (bytes_of d) s
 
-pub record Writing (r : Refusal) (exit : List ℕ) (d : Device) (entry : List ℕ) : Type 0 where
-  pub value : r ≡ refusal (wrote_of entry)
+pub record Writing (r : Result ⊤ Refusal) (exit : List ℕ) (d : Device) (entry : List ℕ) : Type 0 where
+  pub value : r ≡ unless (wrote_of entry) tt
   pub state : exit ≡ wrote d entry
 
 -- another live part and buffer behind the record that stands there
-unfoldable pub kept : Live → List ℕ → List ℕ → List ℕ
+abbrev pub kept : Live → List ℕ → List ℕ → List ℕ
 kept l b s = cond (eqb (length s) state_size) (placed s record_size (live_bytes l ++ b)) s
 
 -- a device whose lists have the lengths of its type, which every device that the code makes has

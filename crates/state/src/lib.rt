@@ -1,14 +1,13 @@
-// A device as bytes, so that a caller in another language can hold it: specs/State.antt has the layout.
+//! A device as bytes, so that a caller in another language can hold it: specs/State.antt has the layout.
 #![tactic(auto)]
 
-ghost use Rattle.std.specs.Prelude.{◌≡◌, length};
-ghost use Rattle.common.specs.Refusals.{refusal};
+ghost use Rattle.std.specs.Prelude.{◌≡◌, length, MatchOption, false};
 ghost use Rattle.control_pipe.specs.Sizes.{buffer_room};
-ghost use Rattle.state.specs.State.{Writing, blank, read_of, kept};
+ghost use Rattle.state.specs.State.{Parted, Writing, state_coded, read_of, kept};
 
 use common::Refusal;
 use control_pipe::BUFFER;
-use device::{Built, Device};
+use device::Device;
 use live::Live;
 use live_bytes::LIVE;
 use record_bytes::RECORD;
@@ -16,78 +15,79 @@ use record_bytes::RECORD;
 // Where the buffer starts.
 const BUFFER_PLACE: usize = RECORD + LIVE;
 
-// The bytes of a state.
+/// The bytes of a state.
 pub const STATE: usize = BUFFER_PLACE + BUFFER;
 
-// No device: every byte 0.
-fn nobody() -> Built
-    ensures { result ≡ record { device = blank; refusal = refusal 9 } }
-{
-    let r = [0u8; RECORD];
-    let l = [0u8; LIVE];
-    Built {
-        device: Device {
-            profile: record_bytes::read(&r),
-            live: live_bytes::read(&l),
-            buffer: [0u8; BUFFER],
-        },
-        refusal: Refusal::BadState,
+// The bytes of a state's parts, where they stand.
+#[derive(Clone, Copy)]
+struct Parts<'a> {
+    record: &'a [u8; RECORD],
+    live: &'a [u8; LIVE],
+    buffer: &'a [u8; BUFFER],
+}
+
+impl<'a> Parts<'a> {
+    // Of bytes that some device is written as.
+    fn of(s: &'a [u8]) -> Option<Parts<'a>>
+        ensures { MatchOption result (state_coded s.now ≡ false) (λ p. Parted p.record.now p.live.now p.buffer.now s.now) }
+    {
+        let (rest, buffer) = s.split_last_chunk::<BUFFER>()?;
+        let (record, live) = rest.split_first_chunk::<RECORD>()?;
+        let Ok(live) = <&[u8; LIVE]>::try_from(live) else {
+            return None;
+        };
+        if !record_bytes::fine(record) || !live_bytes::fine(live) {
+            return None;
+        }
+        Some(Parts {
+            record,
+            live,
+            buffer,
+        })
     }
 }
 
-// The device of a state. Bytes that no device is written as are refusal 9.
-pub fn read(s: &[u8]) -> Built
+/// The device of a state.
+///
+/// # Errors
+///
+/// 9 where no device is written as these bytes: there are not `STATE` of them, or a flag or an enum is no code.
+pub fn read(s: &[u8]) -> Result<Device, Refusal>
     ensures { result ≡ read_of s.now }
 {
-    if s.len() != STATE {
-        return nobody();
-    }
-    let mut r = [0u8; RECORD];
-    common::put(s, 0, RECORD, &mut r, 0);
-    if !record_bytes::fine(&r) {
-        return nobody();
-    }
-    let mut l = [0u8; LIVE];
-    common::put(s, RECORD, LIVE, &mut l, 0);
-    if !live_bytes::fine(&l) {
-        return nobody();
-    }
-    let mut buffer = [0u8; BUFFER];
-    common::put(s, BUFFER_PLACE, BUFFER, &mut buffer, 0);
-    Built {
-        device: Device {
-            profile: record_bytes::read(&r),
-            live: live_bytes::read(&l),
-            buffer,
-        },
-        refusal: Refusal::None,
-    }
+    let parts = Parts::of(s).ok_or(Refusal::BadState)?;
+    Ok(Device {
+        profile: record_bytes::read(parts.record),
+        live: live_bytes::read(parts.live),
+        buffer: *parts.buffer,
+    })
 }
 
-// The live part and the buffer of a device, in the state that holds its record. A room of another length is left as it was.
-pub fn keep(live: Live, buffer: [u8; BUFFER], s: &mut [u8])
-    ensures { (s.new ≡ kept live buffer s.old) × (length buffer ≡ buffer_room) }
+/// Puts the live part and the buffer of a device into the state that holds its record. A room that has not `STATE` bytes is left
+/// as it was.
+pub fn keep(live: &Live, buffer: &[u8; BUFFER], s: &mut [u8])
+    ensures state { s.new ≡ kept live.now buffer.now s.old }
+    ensures long { length buffer.now ≡ buffer_room }
 {
     if s.len() != STATE {
         return;
     }
-    let l = live_bytes::write(live);
-    common::put(&l, 0, LIVE, s, RECORD);
-    common::put(&buffer, 0, BUFFER, s, BUFFER_PLACE);
+    s[RECORD..BUFFER_PLACE].copy_from_slice(&live_bytes::write(live));
+    s[BUFFER_PLACE..].copy_from_slice(buffer);
 }
 
-// The state of a device. A room of another length is refusal 9, and is left as it was.
-pub fn write(d: Device, s: &mut [u8]) -> Refusal
-    ensures { Writing result s.new d s.old }
+/// Writes the state of a device.
+///
+/// # Errors
+///
+/// 9 where the room has not `STATE` bytes. It is left as it was then.
+pub fn write(device: &Device, s: &mut [u8]) -> Result<(), Refusal>
+    ensures { Writing result s.new device.now s.old }
 {
     if s.len() != STATE {
-        return Refusal::BadState;
+        return Err(Refusal::BadState);
     }
-    let profile = d.profile;
-    let live = d.live;
-    let buffer = d.buffer;
-    let r = record_bytes::write(profile);
-    common::put(&r, 0, RECORD, s, 0);
-    keep(live, buffer, s);
-    Refusal::None
+    s[..RECORD].copy_from_slice(&record_bytes::write(&device.profile));
+    keep(&device.live, &device.buffer, s);
+    Ok(())
 }
