@@ -1,11 +1,11 @@
 -- Laws of lines that the proofs cite. Assumes nothing.
-use Rattle.std.proofs.Common.{◌≡◌, ℕ, zero, suc, ◌+◌, ◌-◌, ◌*◌, ◌/◌, ◌%◌, ◌^◌, ◌<◌, ◌≤◌, min, Bool, true, false, cond, eqb, ltb, leb, List, [], ◌∷◌, ◌++◌, length, get_or, take, drop, set, sym, refl, ap, ◌∙◌, ap₂, append_assoc, append-nil, zero-le, add-zero, add-one, arith, length-append, length-drop, length-take, length-take-le, take_all, drop-drop, le-ltb, lt-ltb, leb-false, leb-true}
+use Rattle.std.proofs.Common.{◌≡◌, ℕ, zero, suc, ◌+◌, ◌-◌, ◌*◌, ◌/◌, ◌%◌, ◌^◌, ◌<◌, ◌≤◌, min, Bool, true, false, cond, eqb, ltb, leb, List, [], ◌∷◌, ◌++◌, length, get_or, take, drop, set, sym, refl, ap, ◌∙◌, ap₂, append_assoc, append-nil, zero-le, add-zero, add-one, arith, length-append, length-drop, length-take, length-take-le, take_all, drop-drop, drop-cons, le-ltb, lt-ltb, leb-false, leb-true}
 use native.Mathlib.Nat.{sub-zero}
 use types.Run.{OneOf}
-use lib.ListN.{get_or-eq_default}
+use lib.ListN.{get_or-eq_default, drop_of_length-le}
 use lib.Seq.{set_split}
 use Rattle.common.specs.Bytes.{placed}
-use Rattle.common.proofs.Laws.{placed-nil, placed-more, length-placed, rest-cons, rest-nil, cond-elim, at_most}
+use Rattle.common.proofs.Laws.{placed-nil, placed-more, length-placed, cond-elim, at_most}
 use Rattle.common.proofs.Pending.{Pending, pending-start, pending-as, pending-turn, pending-end}
 use Rattle.requests.specs.declared.State.{State}
 use Rattle.requests.specs.declared.State.TheVariants.{Default, Addressed, Configured, Suspend as Suspended}
@@ -160,9 +160,10 @@ action-rest c x p l =
     ap (λ (a : Action). word_of a p)
     (sym (get_or-eq_default (Nothing ∷ Resume ∷ Suspend ∷ Reset ∷ UnstallOut ∷ UnstallIn ∷ StallOut ∷ StallIn ∷ Halt (record { 0 = x }) ∷ Unhalt (record { 0 = x }) ∷ Address (record { 0 = x }) ∷ Write x ∷ Refused x ∷ []) Nothing l))
 
-pub room-none : (n : ℕ) → n < bad_room → 0 ≡ room_for n
-unfolding room_for
-room-none n l = omega (arith, l)
+pub word-none : (c x : ℕ) (p : List ℕ) → (1 ≤ c → 13 ≤ c) → [] ≡ word_of (action_at c x) p
+unfolding action_at word_of
+word-none zero x p l = refl
+word-none (suc c) x p l = action-rest (suc c) x p (l (omega arith))
 
 -- what is none of 0 to k - 1, as a `match` leaves it
 unfoldable pub Past : ℕ → ℕ → Type 0
@@ -211,16 +212,16 @@ short-then {s = s} {t = t} x y o =
 pub entry-most : (e : List ℕ) → length e ≡ entry_room → length (words_of (actions_in e) (drop top_room e)) ≤ 650
 entry-most e l = let k = length-drop top_room e in words-most (actions_in e) (drop top_room e) (omega (arith, k, l))
 
--- ---- a packet's bytes, one by one
+-- ---- bytes in hex, one by one
 
-module _ (bytes : List ℕ) (n : ℕ) {whole d₀ : List ℕ} {at : ℕ} (i : ℕ) {d : List ℕ} {p : ℕ} where
-  pub hexes-turn : n ≤ length bytes → i < n → Pending whole d₀ at (hexes (drop i (take n bytes))) d p → Pending whole d₀ at (hex_of (get_or bytes i 0) ++ hexes (drop (i + 1) (take n bytes))) d p
+module _ (bytes : List ℕ) {whole d₀ : List ℕ} {at : ℕ} (i : ℕ) {d : List ℕ} {p : ℕ} where
+  pub hexes-turn : i < length bytes → Pending whole d₀ at (hexes (drop i bytes)) d p → Pending whole d₀ at (hex_of (get_or bytes i 0) ++ hexes (drop (i + 1) bytes)) d p
   unfolding hexes
-  hexes-turn l h x = pending-as (ap hexes (rest-cons bytes n i 0 l h)) x
+  hexes-turn h x = pending-as (rw (add-one, drop-cons bytes i 0 h) refl) x
 
-  pub hexes-end : n ≤ i → Pending whole d₀ at (hexes (drop i (take n bytes))) d p → Wrote p d whole d₀ at
+  pub hexes-end : length bytes ≤ i → Pending whole d₀ at (hexes (drop i bytes)) d p → Wrote p d whole d₀ at
   unfolding hexes
-  hexes-end h x = let e = pending-end (pending-as (ap hexes (rest-nil bytes n i h)) x) in record { value = e.1; out = e.0 }
+  hexes-end h x = let e = pending-end (pending-as (rw (drop_of_length-le bytes h) refl) x) in record { value = e.1; out = e.0 }
 
 -- ---- the lines of a trace, entry by entry
 

@@ -3,8 +3,9 @@
 use Rattle.std.proofs.Common.{◌≡◌, ℕ, zero, suc, ◌+◌, ◌*◌, ◌/◌, ◌%◌, ◌<◌, ◌≤◌, min, Bool, true, false, cond, eqb, List, ◌++◌, length, take, drop, sym, refl, ap, ◌∙◌, ap₂, append_assoc, zero-add, add-one, arith, length-take, take_at, drop_at, eqb-true}
 use borrow.Author.Tests.{eqb-false}
 use Rattle.common.specs.Bytes.{part, placed}
-use Rattle.common.specs.Refusals.{number_of, refusal}
-use Rattle.common.specs.declared.Refusal.TheVariants.{None}
+use Rattle.std.specs.Prelude.{Result, Ok, Err, None}
+use Rattle.common.specs.Refusals.{number_of, refusal, stop}
+use Rattle.common.specs.declared.Refusal.{Refusal}
 use Rattle.common.proofs.Laws.{cond-elim, placed-nil}
 use Rattle.requests.specs.declared.State.{State}
 use Rattle.requests.specs.declared.State.TheVariants.{Default, Addressed, Configured, Suspend as Suspended}
@@ -12,19 +13,18 @@ use Rattle.effects.specs.declared.Action.{Action}
 use Rattle.effects.specs.declared.Action.TheVariants.{Nothing, Resume, Suspend, Reset, UnstallOut, UnstallIn, StallOut, StallIn, Halt, Unhalt, Address, Write, Refused}
 use Rattle.device.specs.declared.Device.{Device}
 use Rattle.device.specs.declared.Polled.{Polled}
-use Rattle.device.specs.Device.{refused_by, step_of, room_of}
-use Rattle.records.specs.declared.Known.{Known}
-use Rattle.records.specs.declared.Known.TheVariants.{Good, Refused as Bad}
+use Rattle.device.specs.Device.{step_of, room_of}
+use Rattle.records.specs.declared.Happening.{Happening}
 use Rattle.records.specs.Records.{known_of}
 use Rattle.records.specs.Sizes.{event_room, head_room}
-use Rattle.stream.specs.Trace.{entry_room, state_code, action_code, argument_of, top_bytes, entry_of}
-use Rattle.stream.specs.Stream.{Run, Running, clean, turned, turn_by, turn, runs, turns_by, run_of}
+use Rattle.requests.specs.Codes.{state_code}
+use Rattle.stream.specs.Trace.{entry_room, action_code, argument_of, entry_of}
+use Rattle.stream.specs.Stream.{Run, Running, clean, turn_of, turned, turn_by, turn, stop_number, runs, turns_by, run_of}
 use Rattle.stream.specs.declared.Ran.{Ran}
-use Rattle.stream.proofs.Laws.{entry_length, sound}
+use Rattle.stream.proofs.Laws.{sound}
 use Rattle.lines.specs.Lines.{line_of}
-use Rattle.lines.specs.Entries.{Wrote, Printing, state_at, action_at, entry_line, after, stop_line, event_line, told_lines, lines_of, room_for, fitting, lines_for, line_room, bad_room}
+use Rattle.lines.specs.Entries.{Wrote, Printing, state_at, action_at, entry_line, after, stop_line, step_line, event_line, told_lines, lines_of, room_for, fitting, lines_for, line_room, bad_room}
 use Rattle.lines.specs.declared.Printed.{Printed}
-use Rattle.lines.proofs.Laws.{room-none}
 
 state-reads : (s : State) → state_at (state_code s) ≡ s
 state-reads Default = refl
@@ -49,26 +49,27 @@ action-reads (Write n) = refl
 action-reads (Refused n) = refl
 
 pub line_reads : (n : ℕ) (s : State) (p : Polled) (room : List ℕ) → entry_line n (entry_of s p room) ≡ line_of n s p.actions room
-unfolding entry_line top_bytes
+unfolding entry_line
 line_reads n s p room =
     let a = p.actions in
     rw (state-reads s, action-reads a.first, action-reads a.second, action-reads a.third, action-reads a.fourth, action-reads a.fifth) refl
 
--- of an event record that is taken
+-- of a step, and of an event record that is taken
+step-reads : (n : ℕ) (r : Result Polled Refusal) (d : Device) (room : List ℕ) → length (turn_of r d room).entry ≡ entry_room → entry_line n (turn_of r d room).entry ≡ step_line n r d room
+unfolding turn_of
+step-reads n (Ok p) d room l = line_reads n d.live.kept.state p room
+step-reads n (Err why) d room l = absurd (let x : ◌≡◌ {A = ℕ} 0 82 = l in omega (arith, x))
+
 turn-reads : (n : ℕ) (d : Device) (book s : List ℕ) → (turn d book s).number ≡ 0 → entry_line n (turn d book s).entry ≡ event_line (known_of s) n d book s
 unfolding turn_by turned event_line
-turn-reads n d book s e = by (known_of s) e (entry_length d book s e)
+turn-reads n d book s e = by (known_of s) ((sound d book s).long e)
   where
-    by : (k : Known) → (turn_by k d book s).number ≡ 0 → length (turn_by k d book s).entry ≡ entry_room → entry_line n (turn_by k d book s).entry ≡ event_line k n d book s
-    by (Bad why) z l = absurd (let x : ◌≡◌ {A = ℕ} 0 82 = l in omega (arith, x))
-    by (Good h) z l = at (eqb (refused_by d book clean) 0) refl
-      where
-        at : (b : Bool) → eqb (refused_by d book clean) 0 ≡ b → entry_line n (turned d book h s).entry ≡ event_line (Good h) n d book s
-        at true y =
-            let packet = part head_room h.length s in
-            let x = step_of d book h.event packet clean in
-            rw y (line_reads n x.device.live.kept.state x.polled (room_of d book h.event packet clean))
-        at false y = absurd (eqb-false (refused_by d book clean) 0 y (rw y at z))
+    by : (k : Result Happening Refusal) → length (turn_by k d book s).entry ≡ entry_room → entry_line n (turn_by k d book s).entry ≡ event_line k n d book s
+    by (Err why) l = absurd (let x : ◌≡◌ {A = ℕ} 0 82 = l in omega (arith, x))
+    by (Ok h) l =
+        let packet = part head_room h.length s in
+        let x = step_of d book h.event packet clean in
+        step-reads n x.said x.device (room_of d book h.event packet clean) l
 
 -- whatever stands behind the entries
 pub run-lines : (k n : ℕ) (d : Device) (book events rest : List ℕ) → lines_of (runs k d book events).count n ((runs k d book events).bytes ++ rest) (runs k d book events).number ≡ told_lines k n d book events
@@ -84,7 +85,7 @@ run-lines (suc k) n d book events rest =
         let t = turn d book (take event_room events) in
         let e : t.number ≡ 0 = eqb-true t.number 0 z in
         let r = runs k t.device book (drop event_room events) in
-        let l = entry_length d book (take event_room events) e in
+        let l = (sound d book (take event_room events)).long e in
         let a = append_assoc t.entry r.bytes rest in
         rw (z, add-one r.count, a, take_at t.entry (r.bytes ++ rest) entry_room l, drop_at t.entry (r.bytes ++ rest) entry_room l)
         (ap₂ (λ (x y : List ℕ). x ++ y) (turn-reads n d book (take event_room events) e) x)
@@ -108,13 +109,20 @@ turns-most e t r l = by (eqb (e % event_room) 0) refl
     by true z = (omega arith, omega arith)
     by false z = let n : e % event_room ≡ 0 → ⊥ = eqb-false (e % event_room) 0 z in (omega arith, omega arith)
 
--- the number that stops a run is one of the table's
-pub run-number : (k : ℕ) (d : Device) (book events : List ℕ) → number_of (refusal (runs k d book events).number) ≡ (runs k d book events).number
+-- the number that stops a run is one of the table's, and that of what the run tells
+pub run-number : (k : ℕ) (d : Device) (book events : List ℕ) → ((runs k d book events).number ≡ 0 → ⊥) → number_of (refusal (runs k d book events).number) ≡ (runs k d book events).number
 unfolding runs
-run-number zero d book events = refl
+run-number zero d book events = λ z. absurd (z refl)
 run-number (suc k) d book events =
     let t = turn d book (take event_room events) in
-    cond-elim (λ (x : Run). number_of (refusal x.number) ≡ x.number) (eqb t.number 0) _ _ (λ e. run-number k t.device book (drop event_room events)) (λ e. (sound d book (take event_room events)).number)
+    cond-elim (λ (x : Run). (x.number ≡ 0 → ⊥) → number_of (refusal x.number) ≡ x.number) (eqb t.number 0) _ _ (λ e. run-number k t.device book (drop event_room events)) (λ e. (sound d book (take event_room events)).number)
+
+run-stop : (n : ℕ) → ((n ≡ 0 → ⊥) → number_of (refusal n) ≡ n) → stop_number (stop n) ≡ n
+run-stop n e = by (eqb n 0) refl
+  where
+    by : (b : Bool) → eqb n 0 ≡ b → stop_number (stop n) ≡ n
+    by true z = rw z (sym (eqb-true n 0 z))
+    by false z = rw z (e (eqb-false n 0 z))
 
 -- ---- a run and its lines, from what the calls ensure
 
@@ -123,17 +131,17 @@ module _ (n : ℕ) (d : Device) (book events trace out : List ℕ) where
   ev = fitting events out
 
   -- there is no room for a bad record's line: nothing is run
-  pub print-none : length out < bad_room → Printing (record { device = d; count = 0; written = 0; refusal = None }) trace out (run_of d book ev trace) (lines_for n d book ev trace) trace out
-  unfolding run_of turns_by runs told_lines
+  pub print-none : length out < bad_room → Printing (record { count = 0; written = 0; stop = None }) d trace out (run_of d book ev trace) (lines_for n d book ev trace) trace out
+  unfolding run_of turns_by runs told_lines room_for
   print-none l =
-      let z : room_for (length out) ≡ 0 = sym (room-none (length out) l) in
+      let z : room_for (length out) ≡ 0 = omega (arith, l) in
       let t : min (length trace / entry_room) 0 ≡ 0 = omega arith in
-      rw (z, t) (record { value = refl; trace = sym (placed-nil trace 0); out = sym (placed-nil out 0) })
+      rw (z, t) (record { value = refl; device = refl; trace = sym (placed-nil trace 0); out = sym (placed-nil out 0) })
 
-  pub print-room : {x : Ran} {t : List ℕ} → Running x t (run_of d book ev trace) trace → bad_room ≤ length out → length t ≡ length trace
+  pub print-room : {x : Ran} {a : Device} {t : List ℕ} → Running x a t (run_of d book ev trace) trace → bad_room ≤ length out → length t ≡ length trace
       → (entry_room * x.count ≤ length t) × (line_room * x.count + bad_room ≤ length out)
   unfolding run_of room_for
-  print-room {x} {t} r l m =
+  print-room {x} {a} {t} r l m =
       let k = turns_by (length ev) (length trace) in
       let e : x.count ≡ (runs k d book ev).count = ap (λ (y : Ran). y.count) r.value in
       let c = count_most k d book ev in
@@ -141,19 +149,20 @@ module _ (n : ℕ) (d : Device) (book events trace out : List ℕ) where
       let b = turns-most (length ev) (length trace) (room_for (length out)) o in
       (omega (arith, e, c, b.0, m), omega (arith, e, c, b.1, l))
 
-  pub print-done : {x : Ran} {t o : List ℕ} {w k : ℕ} → Running x t (run_of d book ev trace) trace → k ≡ number_of x.refusal → Wrote w o (lines_of x.count n t k) out 0
-      → Printing (record { device = x.device; count = x.count; written = w; refusal = x.refusal }) t o (run_of d book ev trace) (lines_for n d book ev trace) trace out
+  pub print-done : {x : Ran} {a : Device} {t o : List ℕ} {w : ℕ} → Running x a t (run_of d book ev trace) trace → Wrote w o (lines_of x.count n t (stop_number x.stop)) out 0
+      → Printing (record { count = x.count; written = w; stop = x.stop }) a t o (run_of d book ev trace) (lines_for n d book ev trace) trace out
   unfolding run_of placed
-  print-done {x} {t} {o} {w} {k} r e f =
+  print-done {x} {a} {t} {o} {w} r f =
       let m = turns_by (length ev) (length trace) in
       let y = runs m d book ev in
-      let num : k ≡ y.number = e ∙ (ap (λ (z : Ran). number_of z.refusal) r.value ∙ run-number m d book ev) in
+      let num : stop_number x.stop ≡ y.number = ap (λ (z : Ran). stop_number z.stop) r.value ∙ run-stop y.number (run-number m d book ev) in
       let cnt : x.count ≡ y.count = ap (λ (z : Ran). z.count) r.value in
-      let same : lines_of x.count n t k ≡ told_lines m n d book ev =
+      let same : lines_of x.count n t (stop_number x.stop) ≡ told_lines m n d book ev =
       ap₂ (λ (c j : ℕ). lines_of c n t j) cnt num ∙ (ap (λ (z : List ℕ). lines_of y.count n z y.number) r.trace ∙ run-lines m n d book ev (drop (0 + length y.bytes) trace)) in
       let len : w ≡ length (told_lines m n d book ev) = f.value ∙ (zero-add _ ∙ ap length same) in
       record {
-        value = ap₂ {C = Printed} (λ (z : Ran) (v : ℕ). record { device = z.device; count = z.count; written = v; refusal = z.refusal }) r.value len;
+        value = ap₂ {C = Printed} (λ (z : Ran) (v : ℕ). record { count = z.count; written = v; stop = z.stop }) r.value len;
+        device = r.device;
         trace = r.trace;
         out = f.out ∙ ap (λ (z : List ℕ). placed out 0 z) same;
       }

@@ -1,7 +1,8 @@
 -- Document 01, module 5 (replay): the lines of a run through event records, and the line of one trace entry.
-use Rattle.std.specs.Prelude.{◌≡◌, ℕ, zero, suc, ◌+◌, ◌-◌, ◌*◌, ◌/◌, ◌%◌, ◌^◌, cond, ◌&&◌, List, [], ◌∷◌, ◌++◌, length, get_or, take, drop, ◌==◌, nat_le, slice_index, slice_index_or}
+use Rattle.std.specs.Prelude.{◌≡◌, ℕ, zero, suc, ◌+◌, ◌-◌, ◌*◌, ◌/◌, ◌%◌, ◌^◌, cond, ◌&&◌, List, [], ◌∷◌, ◌++◌, length, get_or, take, drop, ◌==◌, nat_le, slice_index, slice_index_or, Result, Ok, Err}
 use Rattle.common.specs.Bytes.{part, placed}
-use Rattle.common.specs.Refusals.{refusal}
+use Rattle.common.specs.Refusals.{stop}
+use Rattle.common.specs.declared.Refusal.{Refusal}
 use Rattle.requests.specs.declared.State.{State}
 use Rattle.requests.specs.declared.State.TheVariants.{Default, Addressed, Configured, Suspend as Suspended}
 use Rattle.effects.specs.declared.Action.{Action}
@@ -9,8 +10,8 @@ use Rattle.effects.specs.declared.Action.TheVariants.{Nothing, Resume, Suspend, 
 use Rattle.actions.specs.declared.Actions.{Actions}
 use Rattle.device.specs.declared.Device.{Device}
 use Rattle.device.specs.Device.{step_of, room_of}
-use Rattle.records.specs.declared.Known.{Known}
-use Rattle.records.specs.declared.Known.TheVariants.{Good, Refused as Bad}
+use Rattle.device.specs.declared.Polled.{Polled}
+use Rattle.records.specs.declared.Happening.{Happening}
 use Rattle.records.specs.Records.{known_of}
 use Rattle.records.specs.Sizes.{event_room, head_room}
 use Rattle.stream.specs.Trace.{entry_room, top_room}
@@ -71,13 +72,18 @@ after n = (n + 1) % 2 ^ 64
 unfoldable pub stop_line : ℕ → ℕ → List ℕ
 stop_line n number = cond (number == 10) (bad_line n) []
 
--- the line of an event record that a device takes: the state then, the step's actions, and what it wrote
-unfoldable pub event_line : Known → ℕ → Device → List ℕ → List ℕ → List ℕ
-event_line (Good h) n d book s =
+-- the line of a step that no number refuses: the state then, what it told the bus, and what it wrote
+abbrev pub step_line : ℕ → Result Polled Refusal → Device → List ℕ → List ℕ
+step_line n (Ok p) d room = line_of n d.live.kept.state p.actions room
+step_line n (Err why) d room = []
+
+-- .. of the event record that it takes
+unfoldable pub event_line : Result Happening Refusal → ℕ → Device → List ℕ → List ℕ → List ℕ
+event_line (Ok h) n d book s =
     let packet = part head_room h.length s in
     let x = step_of d book h.event packet clean in
-    line_of n x.device.live.kept.state x.polled.actions (room_of d book h.event packet clean)
-event_line (Bad why) n d book s = []
+    step_line n x.said x.device (room_of d book h.event packet clean)
+event_line (Err why) n d book s = []
 
 -- at most k event records, the first numbered n: a line for each; at one that is refused it stops
 unfoldable pub told_lines : ℕ → ℕ → Device → List ℕ → List ℕ → List ℕ
@@ -111,11 +117,12 @@ pub record Wrote (r : ℕ) (exit bytes entry : List ℕ) (at : ℕ) : Type 0 whe
   pub out : exit ≡ placed entry at bytes
 
 abbrev pub printed_of : Run → List ℕ → Printed
-printed_of x lines = record { device = x.device; count = x.count; written = length lines; refusal = refusal x.number }
+printed_of x lines = record { count = x.count; written = length lines; stop = stop x.number }
 
 -- a run's trace entries and its lines, each at the front of its room, nothing behind them changed
-pub record Printing (r : Printed) (exit₁ exit₂ : List ℕ) (x : Run) (lines entry₁ entry₂ : List ℕ) : Type 0 where
+pub record Printing (r : Printed) (after : Device) (exit₁ exit₂ : List ℕ) (x : Run) (lines entry₁ entry₂ : List ℕ) : Type 0 where
   pub value : r ≡ printed_of x lines
+  pub device : after ≡ x.device
   pub trace : exit₁ ≡ placed entry₁ 0 x.bytes
   pub out : exit₂ ≡ placed entry₂ 0 lines
 

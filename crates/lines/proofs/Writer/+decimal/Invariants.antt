@@ -1,4 +1,4 @@
-use Rattle.lines.proofs.+decimal.Given as goal
+use Rattle.lines.proofs.Writer.+decimal.Given as goal
 
 abbrev pub decreases-decimal : goal.decreases-decimal
 decreases-decimal l = l.n

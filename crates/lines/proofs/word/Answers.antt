@@ -1,6 +1,0 @@
-use Rattle.std.proofs.Common.{arith}
-use Rattle.lines.proofs.Laws.{wrote-more}
-use Rattle.lines.proofs.word.Goals as goal
-
-pub returns : goal.returns
-returns c = wrote-more c.byte-next.ensures c.pair.ensures (omega (arith, c.requires))
