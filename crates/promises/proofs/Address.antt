@@ -1,9 +1,9 @@
--- An address is set only where demand 3 lets it be. Assumes nothing.
+-- An address is set only where the request that names it lets it be. Assumes nothing.
 use Prim.Native.Nat.{ℕ, ◌+◌, ◌-◌, ◌/◌, ◌%◌}
 use mathlib.Core.Bool.{Bool, true, false, cond, not, ◌&&◌, false≢true}
 use mathlib.Core.Path.{◌≡◌, refl, sym, ap, subst, subst⁻¹, ◌∙◌}
 use mathlib.Core.List.{List, [], ◌∷◌, ◌++◌}
-use mathlib.Core.Option.{Option, some, none}
+use Rattle.std.specs.Prelude.{Option, Some, None}
 use borrow.Author.Tests.{eqb-true}
 use lib.Dec.{eqb, leb, ltb}
 use lib.ListN.{length}
@@ -29,15 +29,15 @@ use Rattle.requests.specs.declared.Kept.{Kept}
 use Rattle.requests.specs.declared.Effect.{Effect}
 use Rattle.requests.specs.declared.Effect.TheVariants.{Nothing as NoEffect, Wakeup, Halt as HaltIt, Unhalt as UnhaltIt, Address as TakeAddress, Turn}
 use Rattle.requests.specs.declared.Decision.{Decision}
-use Rattle.requests.specs.declared.Decision.TheVariants.{Stall, Status, Byte, Describe, Tiles, Accept}
+use Rattle.requests.specs.declared.Decision.TheVariants.{Status, Byte, Describe, Tiles, Accept}
 use Rattle.requests.specs.Requests.{decide_out, decide_by, decided}
 use Rattle.writer.specs.Descriptors.{descriptor_of}
-use Rattle.answers.specs.Answers.{Answer, stall, tell, tiles, accept, told, described, answer_of, answer}
+use Rattle.answers.specs.Answers.{Answer, stall, tell, tiles, accept, told, described, answer_of, answered, answer}
 use Rattle.live.specs.declared.Live.{Live}
 use Rattle.live.specs.Live.{awake}
 use Rattle.effects.specs.declared.Action.{Action}
 use Rattle.effects.specs.declared.Action.TheVariants.{Nothing as NoAction, Resume as TellResume, Suspend as TellSuspend, Reset as TellReset, UnstallOut, UnstallIn, StallOut, StallIn, Halt, Unhalt, Address, Write, Refused}
-use Rattle.effects.specs.Effects.{Second, with_pipe, halting, awaiting, effected, action_of, set_out, ticked}
+use Rattle.effects.specs.Effects.{Second, with_pipe, halting, effected, action_of, set_out, ticked}
 use Rattle.events.specs.declared.Arrival.{Arrival}
 use Rattle.events.specs.declared.Event.{Event}
 use Rattle.events.specs.declared.Event.TheVariants.{Nothing, Reset, Suspend, Resume, Data}
@@ -45,11 +45,10 @@ use Rattle.events.specs.Events.{Done, odd, arrived, replied, taken_by, followed,
 use Rattle.actions.specs.Actions.{packed, slots}
 use Rattle.device.specs.declared.Device.{Device}
 use Rattle.device.specs.declared.Stepped.{Stepped}
-use Rattle.device.specs.declared.Built.{Built}
-use Rattle.device.specs.Device.{build_refusal, build_of, refused_by, unfit_device, stepped_to, powered_of, done}
+use Rattle.device.specs.Device.{build_refusal, made, refused_by, unfit_device, stepped_to, powered_of, done}
 use Rattle.steady.proofs.Decisions.{decide-in-elim, decide-out-elim}
 use Rattle.steady.proofs.Moves.{begin-elim, arrived-elim, in-elim}
-use Rattle.promises.specs.History.{Moment, happens, powers, asks, after, shown}
+use Rattle.promises.specs.History.{Moment, happens, powers, asks, after, shown, told_in}
 use Rattle.promises.specs.Transfers.{is_packet, accepts, All}
 use Rattle.promises.specs.Addresses.{last_by, last_after, Tale, further, tale, opening, Names, Named, Acts, Addresses, tick_of, ticks, Completed, decided_by, decides}
 use Rattle.steady.proofs.Usable.{step-taken}
@@ -68,13 +67,13 @@ module _ (q : Request) where
   Naming (TakeAddress a) = Names q a
   Naming (Turn s) = Unit {0}
 
-  abbrev NamingBy : Decision → Type 0
-  NamingBy Stall = Unit {0}
-  NamingBy (Status n) = Unit {0}
-  NamingBy (Byte n) = Unit {0}
-  NamingBy Describe = Unit {0}
-  NamingBy (Tiles n) = Unit {0}
-  NamingBy (Accept e) = Naming e
+  abbrev NamingBy : Option Decision → Type 0
+  NamingBy None = Unit {0}
+  NamingBy (Some (Status n)) = Unit {0}
+  NamingBy (Some (Byte n)) = Unit {0}
+  NamingBy (Some Describe) = Unit {0}
+  NamingBy (Some (Tiles n)) = Unit {0}
+  NamingBy (Some (Accept e)) = Naming e
 
   abbrev NamingIn : Answer → Type 0
   NamingIn stall = Unit {0}
@@ -86,22 +85,21 @@ module _ (q : Request) where
   out-names k o = decide-out-elim NamingBy tt k q tt (λ on. tt) (λ e. tt) (λ e. tt) (λ a l t w c v. record { direction = o; kind = t; recipient = w; code = c; value = v }) (λ s e. tt)
 
   decision-names : (d : Direction) (k : Kept) (p : Pipe) (n : ℕ) → q.direction ≡ d → NamingBy (decide_by d k p q n)
-  unfolding decide_by
   decision-names In k p n o = decide-in-elim NamingBy tt k q p n (λ n. tt) (λ n. tt) tt (λ s l. tt) q.kind
   decision-names Out k p n o = out-names k o
 
   told_names : (o : Option (List ℕ)) → NamingIn (told o)
-  told_names none = tt
-  told_names (some bytes) = tt
+  told_names None = tt
+  told_names (Some bytes) = tt
 
-  answer-names : (r : Record) (d : Decision) → NamingBy d → NamingIn (answer_of r q d)
+  answer-names : (r : Record) (d : Option Decision) → NamingBy d → NamingIn (answered r q d)
   unfolding answer_of described
-  answer-names r Stall f = tt
-  answer-names r (Status n) f = tt
-  answer-names r (Byte n) f = tt
-  answer-names r Describe f = cond-elim NamingIn (eqb (lowest r.plan r.ids r.lens) 0) _ _ (λ t. told_names (descriptor_of r (q.value / 256) (q.value % 256) q.index)) (λ t. tt)
-  answer-names r (Tiles n) f = tt
-  answer-names r (Accept e) f = f
+  answer-names r None f = tt
+  answer-names r (Some (Status n)) f = tt
+  answer-names r (Some (Byte n)) f = tt
+  answer-names r (Some Describe) f = cond-elim NamingIn (eqb (lowest r) 0) _ _ (λ t. told_names (descriptor_of r (q.value / 256) (q.value % 256) q.index)) (λ t. tt)
+  answer-names r (Some (Tiles n)) f = tt
+  answer-names r (Some (Accept e)) f = f
 
 names : (r : Record) (k : Kept) (p : Pipe) (n : ℕ) → NamingIn p.request (answer r k p n)
 unfolding answer decided
@@ -122,16 +120,16 @@ Owns DataInLast last q = Unit {0}
 Owns CompleteIn last q = Unit {0}
 Owns StatusOut last q = Unit {0}
 Owns CompleteOut last q = Unit {0}
-Owns DataOut last q = last ≡ some q
+Owns DataOut last q = last ≡ Some q
 Owns StatusIn last q = Unit {0}
 Owns Error last q = Unit {0}
 
-abbrev Some : Option Request → Type 0
-Some none = ⊥
-Some (some q) = Unit {0}
+abbrev IsThere : Option Request → Type 0
+IsThere None = ⊥
+IsThere (Some q) = Unit {0}
 
-none≢some : {q : Request} → none ≡ some q → ⊥
-none≢some e = subst⁻¹ Some e tt
+none≢some : {q : Request} → None ≡ Some q → ⊥
+none≢some e = subst⁻¹ IsThere e tt
 
 -- what is known at the stage of a status
 abbrev AtStatus : Stage → Type 0 → Type 0
@@ -173,16 +171,14 @@ module _ (quirk : Bool) (old last : Option Request) (tick : Bool) (before : Stag
   sent-kind size true book p b e f = record { pends = f; owns = chunk-free size (chunk size p.reply) p p.request; acts = tt }
   sent-kind size false book p b e f = record { pends = f; owns = subst⁻¹ (λ (t : Stage). Owns t last p.request) e tt; acts = tt }
 
-  module _ (l : Live) (b : List ℕ) (last-is : last ≡ some l.pipe.request) (free : Owns l.pipe.stage none l.pipe.request) (f : Pends last l.pipe.pending) where
+  module _ (l : Live) (b : List ℕ) (last-is : last ≡ Some l.pipe.request) (free : Owns l.pipe.stage None l.pipe.request) (f : Pends last l.pipe.pending) where
     named : (a : BusAddress) → Names l.pipe.request a → Named last a
     named a n = subst⁻¹ (λ (x : Option Request). Named x a) last-is n
 
     halting-kind : (e : EndpointAddress) (on : Bool) → Pends last (halting e on l).pipe.pending
-    unfolding halting
     halting-kind e on = cond-elim (λ (x : Live). Pends last x.pipe.pending) (eqb (e.0 % 16) 0) _ _ (λ t. cond-elim (λ (x : Live). Pends last x.pipe.pending) (ltb e.0 128) _ _ (λ t. f) (λ t. f)) (λ t. f)
 
     effect-pends : (e : Effect) → Naming l.pipe.request e → Pends last (effected e quirk l).pipe.pending
-    unfolding effected awaiting
     effect-pends NoEffect n = f
     effect-pends (Wakeup on) n = f
     effect-pends (HaltIt e) n = halting-kind e true
@@ -191,7 +187,6 @@ module _ (quirk : Bool) (old last : Option Request) (tick : Bool) (before : Stag
     effect-pends (Turn s) n = f
 
     effect-acts : (now : Stage) (e : Effect) → Naming l.pipe.request e → Acts (Claim quirk old last true tick before now) (action_of e quirk)
-    unfolding action_of
     effect-acts now NoEffect n = tt
     effect-acts now (Wakeup on) n = tt
     effect-acts now (HaltIt e) n = tt
@@ -208,7 +203,7 @@ module _ (quirk : Bool) (old last : Option Request) (tick : Bool) (before : Stag
     accept-owns true e = tt
     accept-owns false e = subst⁻¹ (λ (t : Stage). Owns t last (effected e quirk l).pipe.request) (effected-stage e quirk l) (owns_none l.pipe.stage (effected e quirk l).pipe.request free)
       where
-        owns_none : (t : Stage) (q : Request) → Owns t none l.pipe.request → Owns t last q
+        owns_none : (t : Stage) (q : Request) → Owns t None l.pipe.request → Owns t last q
         owns_none Idle q o = tt
         owns_none DataIn q o = tt
         owns_none DataInZlp q o = tt
@@ -287,7 +282,7 @@ module _ (r : Record) (old last : Option Request) (before : Stage) (book : List 
   abbrev quirk : Bool
   quirk = r.plan.basics.quirk
 
-  follow-decides : (tick : Bool) → last ≡ some l.pipe.request → Owns l.pipe.stage none l.pipe.request → SecondKind quirk old last tick before true (followed r true tick taken book l b)
+  follow-decides : (tick : Bool) → last ≡ Some l.pipe.request → Owns l.pipe.stage None l.pipe.request → SecondKind quirk old last tick before true (followed r true tick taken book l b)
   unfolding followed
   follow-decides tick e o = replied-kind quirk old last tick before l b e o f (answer r l.kept l.pipe l.book) r.plan.basics.packet taken book (names r l.kept l.pipe l.book)
 
@@ -317,7 +312,7 @@ Was last before t = AtStatus t ((before ≡ StatusIn) × (last ≡ last))
 record FirstKind (p : Pipe) (last : Option Request) (m : Move) : Type 0 where
   pending : m.pipe.pending ≡ p.pending
   waits : m.done ≡ false → Owns m.pipe.stage last m.pipe.request × Was last p.stage m.pipe.stage
-  decides : m.done ≡ true → (last ≡ some m.pipe.request) × Owns m.pipe.stage none m.pipe.request
+  decides : m.done ≡ true → (last ≡ Some m.pipe.request) × Owns m.pipe.stage None m.pipe.request
 
 was : (last : Option Request) (t : Stage) → Was last t t
 was last Idle = tt
@@ -344,7 +339,7 @@ module _ (p : Pipe) (last : Option Request) (b : List ℕ) where
   stalled-first : First (stalled p b)
   stalled-first = record { pending = refl; waits = λ z. (tt, tt); decides = λ z. absurd (false≢true z) }
 
-  filled-first : (b' : List ℕ) (x : Pipe) → x.pending ≡ p.pending → last ≡ some x.request → First (filled x b')
+  filled-first : (b' : List ℕ) (x : Pipe) → x.pending ≡ p.pending → last ≡ Some x.request → First (filled x b')
   filled-first b' x e o = by (leb x.coming.awaited x.coming.held) refl
     where
       by : (full : Bool) → leb x.coming.awaited x.coming.held ≡ full → First (filled x b')
@@ -381,21 +376,21 @@ module _ (r : Record) (s book : List ℕ) where
   module _ (l : Live) (b : List ℕ) (old : Option Request) (before : Stage) where
     -- an accepted SETUP
     begin-kind : (q : Request) (tick taken : Bool)
-        → let m = begin_by q.direction q in SecondKind r.plan.basics.quirk old (some q) tick before m.done (followed r m.done tick taken book (with_pipe m.pipe l) m.buffer)
+        → let m = begin_by q.direction q in SecondKind r.plan.basics.quirk old (Some q) tick before m.done (followed r m.done tick taken book (with_pipe m.pipe l) m.buffer)
     begin-kind q tick taken =
-        let P : Move → Type 0 = λ m. SecondKind r.plan.basics.quirk old (some q) tick before m.done (followed r m.done tick taken book (with_pipe m.pipe l) m.buffer) in
-        let f : Pends (some q) (record { 0 = 0 }) = λ z. absurd (false≢true (sym z)) in
-        begin-elim P q (λ d. follow-decides r old (some q) before book taken (with_pipe (fresh CompleteIn q 0) l) zeros f tick refl tt)
-        (λ d. follow-decides r old (some q) before book taken (with_pipe (fresh CompleteOut q 0) l) zeros f tick refl tt)
-        (λ d k. follow-waits r old (some q) before book taken (with_pipe (fresh DataOut q q.length) l) zeros f tick refl tt)
-        (follow-waits r old (some q) before book taken (with_pipe (stalled (fresh Error q 0) zeros).pipe l) zeros f tick tt tt)
+        let P : Move → Type 0 = λ m. SecondKind r.plan.basics.quirk old (Some q) tick before m.done (followed r m.done tick taken book (with_pipe m.pipe l) m.buffer) in
+        let f : Pends (Some q) (record { 0 = 0 }) = λ z. absurd (false≢true (sym z)) in
+        begin-elim P q (λ d. follow-decides r old (Some q) before book taken (with_pipe (fresh CompleteIn q 0) l) zeros f tick refl tt)
+        (λ d. follow-decides r old (Some q) before book taken (with_pipe (fresh CompleteOut q 0) l) zeros f tick refl tt)
+        (λ d k. follow-waits r old (Some q) before book taken (with_pipe (fresh DataOut q q.length) l) zeros f tick refl tt)
+        (follow-waits r old (Some q) before book taken (with_pipe (stalled (fresh Error q 0) zeros).pipe l) zeros f tick tt tt)
 
     begins : (resumed : Bool) (a : Arrival) → odd a.setup ≡ true → a.read ≡ Packet → length s ≡ 8
-        → DoneKind old (some (request_of s)) (arrived a s l.pipe b).done (odd a.done) before (data_come r resumed a s book l b)
+        → DoneKind old (Some (request_of s)) (arrived a s l.pipe b).done (odd a.done) before (data_come r resumed a s book l b)
     unfolding data_come
     begins resumed a x y z =
         let q = request_of s in
-        let P : Move → Type 0 = λ m. SecondKind r.plan.basics.quirk old (some q) (odd a.done) before m.done (followed r m.done (odd a.done) (taken_by a.write) book (with_pipe m.pipe l) m.buffer) in
+        let P : Move → Type 0 = λ m. SecondKind r.plan.basics.quirk old (Some q) (odd a.done) before m.done (followed r m.done (odd a.done) (taken_by a.write) book (with_pipe m.pipe l) m.buffer) in
         let k : P (arrived a s l.pipe b) = subst⁻¹ P (accepted a s l.pipe b x y z) (begin-kind q (odd a.done) (taken_by a.write)) in
         record { pends = k.pends; owns = k.owns; acts = k.acts }
 
@@ -483,7 +478,7 @@ module _ (t : Tale) (c : Along t) where
   powers-moves : (on : Bool) → Moves (powers on)
   unfolding after shown last_after powered_of
   powers-moves on =
-      record { along = cond-elim (λ (x : Built). Along (record { device = x.device; last = t.last })) (eqb (unfit_device d) 0) _ _ (λ e. record { pends = c.pends; owns = c.owns }) (λ e. c); acts = tt }
+      record { along = cond-elim (λ (x : Device). Along (record { device = x; last = t.last })) (eqb (unfit_device d) 0) _ _ (λ e. record { pends = c.pends; owns = c.owns }) (λ e. c); acts = tt }
 
   asks-moves : (room : List ℕ) → Moves (asks room)
   unfolding after shown last_after
@@ -501,8 +496,8 @@ module _ (t : Tale) (c : Along t) where
         let l : last_after d t.last m ≡ t.last = rw z refl in
         record {
           along = subst⁻¹ (λ (y : Stepped). Along (record { device = y.device; last = last_after d t.last m })) r (subst⁻¹ (λ (y : Option Request). Along (record { device = d; last = y })) l c);
-          acts = subst⁻¹ (λ (y : Stepped). All (Acts (Claim quirky t.last (last_after d t.last m) (decided_by e s d) (tick_of e) d.live.pipe.stage y.device.live.pipe.stage)) (slots y.polled.actions)) r
-              (tt, (tt, (tt, (tt, (tt, tt)))));
+          acts = subst⁻¹ (λ (y : Stepped). All (Acts (Claim quirky t.last (last_after d t.last m) (decided_by e s d) (tick_of e) d.live.pipe.stage y.device.live.pipe.stage)) (told_in y.said)) r
+              tt;
         }
 
     moves-taken : refused_by d book room ≡ 0 → Moves m
@@ -515,8 +510,8 @@ module _ (t : Tale) (c : Along t) where
         record {
           along = subst⁻¹ (λ (y : Stepped). Along (record { device = y.device; last = last_after d t.last m })) r
               (subst⁻¹ (λ (y : Option Request). Along (record { device = (stepped_to d e x).device; last = y })) l (record { pends = k.pends; owns = k.owns }));
-          acts = subst⁻¹ (λ (y : Stepped). All (Acts (Claim quirky t.last (last_after d t.last m) (decided_by e s d) (tick_of e) d.live.pipe.stage y.device.live.pipe.stage)) (slots y.polled.actions)) r
-              (subst⁻¹ (λ (y : Option Request). All (Acts (Claim quirky t.last y (decided_by e s d) (tick_of e) d.live.pipe.stage x.live.pipe.stage)) (slots (stepped_to d e x).polled.actions)) l
+          acts = subst⁻¹ (λ (y : Stepped). All (Acts (Claim quirky t.last (last_after d t.last m) (decided_by e s d) (tick_of e) d.live.pipe.stage y.device.live.pipe.stage)) (told_in y.said)) r
+              (subst⁻¹ (λ (y : Option Request). All (Acts (Claim quirky t.last y (decided_by e s d) (tick_of e) d.live.pipe.stage x.live.pipe.stage)) (told_in (stepped_to d e x).said)) l
               (acts-told (Claim quirky t.last (last_by e s t.last) (decided_by e s d) (tick_of e) d.live.pipe.stage x.live.pipe.stage) x k.acts));
         }
 
@@ -535,9 +530,9 @@ along-all [] t c = c
 along-all (m ∷ ms) t c = along-all ms (further t m) (moves t c m).along
 
 built-along : (r : Record) (n : ℕ) → Along (opening r n)
-unfolding build_of
+unfolding made
 built-along r n =
-    cond-elim (λ (x : Built). Along (record { device = x.device; last = none })) (eqb (build_refusal r n) 0) _ _ (λ e. record { pends = λ z. absurd (false≢true (sym z)); owns = tt })
+    cond-elim (λ (x : Device). Along (record { device = x; last = None })) (eqb (build_refusal r n) 0) _ _ (λ e. record { pends = λ z. absurd (false≢true (sym z)); owns = tt })
     (λ e. record { pends = λ z. absurd (false≢true (sym z)); owns = tt })
 
 tale-profile : (ms : List Moment) (t : Tale) → (tale t ms).device.profile ≡ t.device.profile
@@ -545,9 +540,9 @@ unfolding tale
 tale-profile [] t = refl
 tale-profile (m ∷ ms) t = tale-profile ms (further t m) ∙ kept-profile t.device m
 
-built-profile : (r : Record) (n : ℕ) → (build_of r n).device.profile ≡ r
-unfolding build_of
-built-profile r n = cond-elim (λ (x : Built). x.device.profile ≡ r) (eqb (build_refusal r n) 0) _ _ (λ e. refl) (λ e. refl)
+built-profile : (r : Record) (n : ℕ) → (made r n).profile ≡ r
+unfolding made
+built-profile r n = cond-elim (λ (x : Device). x.profile ≡ r) (eqb (build_refusal r n) 0) _ _ (λ e. refl) (λ e. refl)
 
 module _ (r : Record) (n : ℕ) (ms : List Moment) (m : Moment) where
   abbrev told-so : Tale
@@ -555,7 +550,7 @@ module _ (r : Record) (n : ℕ) (ms : List Moment) (m : Moment) where
 
   claims : (quirk : Bool) → r.plan.basics.quirk ≡ quirk
       → Addresses (Claim quirk told-so.last (further told-so m).last (decides told-so.device m) (ticks m) told-so.device.live.pipe.stage (after told-so.device m).live.pipe.stage) (shown told-so.device m)
-  claims quirk e =
+  claims q e =
       subst (λ (x : Bool). Addresses (Claim x told-so.last (further told-so m).last (decides told-so.device m) (ticks m) told-so.device.live.pipe.stage (after told-so.device m).live.pipe.stage) (shown told-so.device m))
       (ap (λ (x : Record). x.plan.basics.quirk) (tale-profile ms (opening r n) ∙ built-profile r n) ∙ e) (moves told-so (along-all ms (opening r n) (built-along r n)) m).acts
 

@@ -8,6 +8,7 @@ use native.Mathlib.Nat.{div-eq_of_lt, div-eq-sub-div, div_self, sub-zero, add-ze
 use borrow.Author.Tests.{leb-true, leb-false, eqb-true, eqb-false}
 use lib.Dec.{eqb, leb}
 use lib.ListN.{length, take, drop, length-append, length-take, length-drop}
+use Rattle.std.specs.Prelude.{Option, Some, None}
 use Rattle.common.specs.Bytes.{front}
 use Rattle.common.proofs.Laws.{cond-elim, and-false}
 use Rattle.common.specs.Lists.{member}
@@ -29,9 +30,9 @@ use Rattle.control_pipe.specs.declared.Read.TheVariants.{Packet}
 use Rattle.control_pipe.specs.Stages.{Move, fresh, zeros, answering, begin_by, chunk, after_chunk, advanced, send_chunk, in_at, in_complete}
 use Rattle.requests.specs.declared.Kept.{Kept}
 use Rattle.requests.specs.declared.Decision.{Decision}
-use Rattle.requests.specs.declared.Decision.TheVariants.{Stall, Status, Byte, Describe, Tiles, Accept}
+use Rattle.requests.specs.declared.Decision.TheVariants.{Status, Byte, Describe, Tiles, Accept}
 use Rattle.requests.specs.Requests.{decide_out, decide_by, decided}
-use Rattle.answers.specs.Answers.{Answer, stall, tell, tiles, accept, answer_of, answer, bytes_of}
+use Rattle.answers.specs.Answers.{Answer, stall, tell, tiles, accept, answer_of, answered as answered_by, answer, bytes_of}
 use Rattle.live.specs.declared.Live.{Live}
 use Rattle.live.specs.Live.{awake, live_fine, unfit}
 use Rattle.effects.specs.declared.Action.TheVariants.{Nothing as NoAction}
@@ -196,7 +197,7 @@ module _ (d : Device) (a : Arrival) (book s room : List ℕ) (z : refused_by d b
 -- ---- the packet size
 
 member-positive : (n : ℕ) → packet_fine n ≡ true → 0 < n
-unfolding packet_fine member
+unfolding member
 member-positive zero e = absurd (false≢true e)
 member-positive (suc n) e = omega arith
 
@@ -204,8 +205,8 @@ pub fit-positive : (d : Device) → unfit_device d ≡ 0 → 0 < d.profile.plan.
 unfolding unfit
 fit-positive d z =
     let r = d.profile in
-    let f = both (live_fine d.live) (eqb (lowest r.plan r.ids r.lens) 0) z in
-    member-positive r.plan.basics.packet (good r.plan r.ids r.lens (eqb-true (lowest r.plan r.ids r.lens) 0 f.1)).packet
+    let f = both (live_fine d.live) (eqb (lowest r) 0) z in
+    member-positive r.plan.basics.packet (good r (eqb-true (lowest r) 0 f.1)).packet
 
 -- ---- one IN-complete after the other
 
@@ -329,19 +330,19 @@ module _ (r : Record) (q : Request) (book : List ℕ) (l : Live) (n : l.book ≡
   answer-counts (accept x) e = absurd (false≢true e)
 
 -- an OUT request has none
-silent-decision : (r : Record) (q : Request) (d : Decision) → Bare d → speaks (answer_of r q d) ≡ true → ⊥
+silent-decision : (r : Record) (q : Request) (d : Option Decision) → Bare d → speaks (answered_by r q d) ≡ true → ⊥
 unfolding answer_of
-silent-decision r q Stall f e = false≢true e
-silent-decision r q (Status n) f e = f
-silent-decision r q (Byte n) f e = f
-silent-decision r q Describe f e = f
-silent-decision r q (Tiles n) f e = f
-silent-decision r q (Accept x) f e = false≢true e
+silent-decision r q None f e = false≢true e
+silent-decision r q (Some (Status n)) f e = f
+silent-decision r q (Some (Byte n)) f e = f
+silent-decision r q (Some Describe) f e = f
+silent-decision r q (Some (Tiles n)) f e = f
+silent-decision r q (Some (Accept x)) f e = false≢true e
 
 pub out-silent : (r : Record) (k : Kept) (q : Request) (n : ℕ) → q.direction ≡ Out → speaks (answer r k (fresh CompleteIn q 0) n) ≡ true → ⊥
-unfolding answer decided decide_by
+unfolding answer decided
 out-silent r k q n o e =
-    silent-decision r q (decide_out q.kind k q) (bare k q) (sym (ap (λ (x : Direction). speaks (answer_of r q (decide_by x k (fresh CompleteIn q 0) q n))) o) ∙ e)
+    silent-decision r q (decide_out q.kind k q) (bare k q) (sym (ap (λ (x : Direction). speaks (answered_by r q (decide_by x k (fresh CompleteIn q 0) q n))) o) ∙ e)
 
 module _ (d : Device) (a : Arrival) (book s room : List ℕ) (z : refused_by d book room ≡ 0) (o : odd a.setup ≡ true) (x : a.read ≡ Packet) (e : length s ≡ 8) (w : a.write ≡ Taken) where
   abbrev q : Request

@@ -1,9 +1,9 @@
--- After an accepted SETUP only what demand 3 names of the past counts. Assumes nothing.
+-- After an accepted SETUP only what may outlive it counts of the past (`Agree`). Assumes nothing.
 use Prim.Native.Nat.{ℕ, ◌/◌, ◌%◌, ◌^◌}
 use mathlib.Core.Bool.{Bool, true, false, cond, not, ◌&&◌}
 use mathlib.Core.Path.{◌≡◌, refl, sym, ap, ap₂, subst, subst⁻¹, ◌∙◌}
 use mathlib.Core.List.{List}
-use mathlib.Core.Option.{Option, some, none}
+use Rattle.std.specs.Prelude.{Option, Some, None, Result, Ok}
 use borrow.Author.Tests.{ne_eqb}
 use lib.Dec.{eqb, leb, ltb}
 use lib.ListN.{length}
@@ -16,8 +16,7 @@ use Rattle.control.specs.declared.RequestType.TheVariants.{Standard, Class, Vend
 use Rattle.control.specs.declared.Recipient.{Recipient}
 use Rattle.control.specs.declared.Recipient.TheVariants.{Device as OfDevice, Interface, Endpoint, Other, Reserved}
 use Rattle.control.specs.declared.Request.{Request}
-use Rattle.control.specs.declared.Parsed.TheVariants.{Good}
-use Rattle.control.specs.declared.Parsed.{Parsed}
+use Rattle.common.specs.declared.Refusal.{Refusal}
 use Rattle.control.specs.Setup.{request_of, parsed}
 use Rattle.record.specs.declared.Record.{Record}
 use Rattle.limits.specs.Limits.{lowest}
@@ -34,13 +33,13 @@ use Rattle.requests.specs.declared.Effect.{Effect}
 use Rattle.requests.specs.declared.Effect.TheVariants.{Nothing as NoEffect, Wakeup, Halt as HaltIt, Unhalt as UnhaltIt, Address as TakeAddress, Turn}
 use Rattle.control.specs.declared.EndpointAddress.{EndpointAddress}
 use Rattle.requests.specs.declared.Decision.{Decision}
-use Rattle.requests.specs.declared.Decision.TheVariants.{Stall, Status, Byte, Describe, Tiles, Accept}
-use Rattle.requests.specs.Requests.{halt_place, halted, decide_in, deconfigured, device_out, set_address, set_configuration, interface_out, endpoint_out, standard_out, decide_out, decide_by, decided}
+use Rattle.requests.specs.declared.Decision.TheVariants.{Status, Byte, Describe, Tiles, Accept}
+use Rattle.requests.specs.Requests.{halt_place, decide_in, deconfigured, device_out, standard_out, decide_out, decide_by, decided}
 use Rattle.writer.specs.Descriptors.{descriptor_of}
-use Rattle.answers.specs.Answers.{Answer, told, described, answer_of, answer}
+use Rattle.answers.specs.Answers.{Answer, told, described, answer_of, answered, answer}
 use Rattle.live.specs.declared.Live.{Live}
 use Rattle.live.specs.Live.{awake}
-use Rattle.effects.specs.Effects.{Second, with_pipe, halting, awaiting, effected, set_out, ticked}
+use Rattle.effects.specs.Effects.{Second, with_pipe, halting, effected, set_out, ticked}
 use Rattle.events.specs.declared.Arrival.{Arrival}
 use Rattle.events.specs.declared.Event.TheVariants.{Data}
 use Rattle.events.specs.Events.{Done, odd, arrived, taken_by, replied, followed, data_come, woken, handled, happens as happens_to}
@@ -54,13 +53,13 @@ use Rattle.promises.proofs.Halts.{cond_both, kept_with, Close, Kin, Alike, follo
 
 -- ---- an IN request leaves what outlives a SETUP
 
-abbrev pub Mild : Decision → Type 0
-Mild Stall = Unit {0}
-Mild (Status n) = Unit {0}
-Mild (Byte n) = Unit {0}
-Mild Describe = Unit {0}
-Mild (Tiles n) = Unit {0}
-Mild (Accept e) = ⊥
+abbrev pub Mild : Option Decision → Type 0
+Mild None = Unit {0}
+Mild (Some (Status n)) = Unit {0}
+Mild (Some (Byte n)) = Unit {0}
+Mild (Some Describe) = Unit {0}
+Mild (Some (Tiles n)) = Unit {0}
+Mild (Some (Accept e)) = ⊥
 
 pub mild : (t : RequestType) (k : Kept) (p : Pipe) (q : Request) (n : ℕ) → Mild (decide_in t k p q n)
 mild t k p q n = decide-in-elim Mild tt k q p n (λ n. tt) (λ n. tt) tt (λ s l. tt) t
@@ -71,17 +70,17 @@ module _ (r : Record) (q : Request) (size : ℕ) (quirk taken : Bool) (book : Li
 
   left-told : (o : Option (List ℕ)) → Left (told o)
   unfolding set_out send_chunk
-  left-told none = refl
-  left-told (some bytes) = refl
+  left-told None = refl
+  left-told (Some bytes) = refl
 
-  left : (d : Decision) → Mild d → Left (answer_of r q d)
+  left : (d : Option Decision) → Mild d → Left (answered r q d)
   unfolding answer_of described set_out send_chunk
-  left Stall m = refl
-  left (Status n) m = refl
-  left (Byte n) m = refl
-  left Describe m = cond-elim Left (eqb (lowest r.plan r.ids r.lens) 0) _ _ (λ e. left-told (descriptor_of r (q.value / 256) (q.value % 256) q.index)) (λ e. refl)
-  left (Tiles n) m = refl
-  left (Accept e) m = absurd m
+  left None m = refl
+  left (Some (Status n)) m = refl
+  left (Some (Byte n)) m = refl
+  left (Some Describe) m = cond-elim Left (eqb (lowest r) 0) _ _ (λ e. left-told (descriptor_of r (q.value / 256) (q.value % 256) q.index)) (λ e. refl)
+  left (Some (Tiles n)) m = refl
+  left (Some (Accept e)) m = absurd m
 
 -- ---- an OUT request's pipe and buffer do not depend on what outlives a SETUP
 
@@ -111,14 +110,12 @@ module _ (r : Record) (q : Request) (size : ℕ) (quirk taken : Bool) (book : Li
   itself = record { pipe = refl; before = refl; book = refl; built = refl }
 
   halts-alike : (e : EndpointAddress) (on : Bool) → Beside (halting e on one) (halting e on other)
-  unfolding halting
   halts-alike e on =
       cond_both Beside (eqb (e.0 % 16) 0) _ _ _ _
       (cond_both Beside (ltb e.0 128) _ _ _ _ (record { pipe = refl; before = refl; book = refl; built = refl }) (record { pipe = refl; before = refl; book = refl; built = refl }))
       (record { pipe = refl; before = refl; book = refl; built = refl })
 
   effects-alike : (e : Effect) → Beside (effected e quirk one) (effected e quirk other)
-  unfolding effected awaiting
   effects-alike NoEffect = itself
   effects-alike (Wakeup on) = record { pipe = refl; before = refl; book = refl; built = refl }
   effects-alike (HaltIt e) = halts-alike e true
@@ -127,7 +124,6 @@ module _ (r : Record) (q : Request) (size : ℕ) (quirk taken : Bool) (book : Li
   effects-alike (Turn s) = record { pipe = refl; before = refl; book = refl; built = refl }
 
   unchanged : (s : State) (l : Live) → Beside (effected (deconfigured s) quirk l) l
-  unfolding effected
   unchanged Default l = record { pipe = refl; before = refl; book = refl; built = refl }
   unchanged Addressed l = record { pipe = refl; before = refl; book = refl; built = refl }
   unchanged Configured l = record { pipe = refl; before = refl; book = refl; built = refl }
@@ -139,10 +135,10 @@ module _ (r : Record) (q : Request) (size : ℕ) (quirk taken : Bool) (book : Li
       let y = unchanged s' other in
       record { pipe = x.pipe ∙ sym y.pipe; before = x.before ∙ sym y.before; book = x.book ∙ sym y.book; built = x.built ∙ sym y.built }
 
-  abbrev Both : Decision → Decision → Type 0
-  Both d d' = Same (replied (answer_of r q d) size quirk taken book one b) (replied (answer_of r q d') size quirk taken book other b)
+  abbrev Both : Option Decision → Option Decision → Type 0
+  Both d d' = Same (replied (answered r q d) size quirk taken book one b) (replied (answered r q d') size quirk taken book other b)
 
-  both-accept : (e e' : Effect) → Beside (effected e quirk one) (effected e' quirk other) → Both (Accept e) (Accept e')
+  both-accept : (e e' : Effect) → Beside (effected e quirk one) (effected e' quirk other) → Both (Some (Accept e)) (Some (Accept e'))
   unfolding answer_of set_out
   both-accept e e' a =
       record {
@@ -150,15 +146,14 @@ module _ (r : Record) (q : Request) (size : ℕ) (quirk taken : Bool) (book : Li
         buffer = refl;
       }
 
-  both-stall : Both Stall Stall
+  both-stall : Both None None
   unfolding answer_of set_out
   both-stall = record { live = record { pipe = refl; before = refl; book = refl; built = refl }; buffer = refl }
 
-  both-same : (e : Effect) → Both (Accept e) (Accept e)
+  both-same : (e : Effect) → Both (Some (Accept e)) (Some (Accept e))
   both-same e = both-accept e e (effects-alike e)
 
   both-device : (code value : ℕ) → Both (device_out k.state code value) (device_out k'.state code value)
-  unfolding device_out set_address set_configuration
   both-device code value =
       cond_both Both (eqb code 1) _ _ _ _ (cond_both Both (eqb value 1) _ _ _ _ (both-same _) both-stall)
       (cond_both Both (eqb code 3) _ _ _ _ (cond_both Both (eqb value 1) _ _ _ _ (both-same _) both-stall)
@@ -168,7 +163,6 @@ module _ (r : Record) (q : Request) (size : ℕ) (quirk taken : Bool) (book : Li
       both-stall)))
 
   both-standard : (t : Recipient) → Both (standard_out t k q) (standard_out t k' q)
-  unfolding standard_out interface_out endpoint_out
   both-standard OfDevice = both-device q.request q.value
   both-standard Interface = cond_both Both (eqb q.request 11 && eqb q.value 0 && leb q.index 255) _ _ _ _ (both-same _) both-stall
   both-standard Endpoint =
@@ -178,7 +172,6 @@ module _ (r : Record) (q : Request) (size : ℕ) (quirk taken : Bool) (book : Li
   both-standard Reserved = both-stall
 
   both_out : (t : RequestType) → Both (decide_out t k q) (decide_out t k' q)
-  unfolding decide_out
   both_out Standard = both-standard q.recipient
   both_out Class = both-stall
   both_out Vendor = both-stall
@@ -213,10 +206,10 @@ module _ (r : Record) (q : Request) (tick taken : Bool) (book : List ℕ) (n : �
 
   -- IN: what outlives the SETUP is as it was
   in_kept : q.direction ≡ In → (k : Kept) → (second (begin_by In q) k).live.kept ≡ k
-  unfolding begin_by followed answer decided decide_by
+  unfolding begin_by followed answer decided
   in_kept d k =
       let p = fresh CompleteIn q 0 in
-      ap (λ (x : Direction). (replied (answer_of r q (decide_by x k p q n)) size quirk taken book (going p k n) zeros).live.kept) d
+      ap (λ (x : Direction). (replied (answered r q (decide_by x k p q n)) size quirk taken book (going p k n) zeros).live.kept) d
       ∙ left r q size quirk taken book (going p k n) zeros (decide_in q.kind k p q n) (mild q.kind k p q n)
 
   in_cut : q.direction ≡ In → Cut (begin_by In q)
@@ -229,10 +222,10 @@ module _ (r : Record) (q : Request) (tick taken : Bool) (book : List ℕ) (n : �
 
   -- OUT without data: decided at once
   out-decided : q.direction ≡ Out → (k k' : Kept) → Same (second (opened (fresh CompleteOut q 0) true) k) (second (opened (fresh CompleteOut q 0) true) k')
-  unfolding followed answer decided decide_by
+  unfolding followed answer decided
   out-decided d k k' =
       let p = fresh CompleteOut q 0 in
-      subst⁻¹ (λ (x : Direction). Same (replied (answer_of r q (decide_by x k p q n)) size quirk taken book (going p k n) zeros) (replied (answer_of r q (decide_by x k' p q n)) size quirk taken book (going p k' n) zeros)) d
+      subst⁻¹ (λ (x : Direction). Same (replied (answered r q (decide_by x k p q n)) size quirk taken book (going p k n) zeros) (replied (answered r q (decide_by x k' p q n)) size quirk taken book (going p k' n) zeros)) d
       (both_out r q size quirk taken book p n zeros k k' q.kind)
 
   -- OUT with data, or with too much of it: an IN-complete beside it does nothing
@@ -260,10 +253,10 @@ module _ (r : Record) (q : Request) (tick taken : Bool) (book : List ℕ) (n : �
 
 -- a SETUP of eight bytes is accepted, whatever the pipe was
 pub accepted : (a : Arrival) (s : List ℕ) (p : Pipe) (b : List ℕ) → odd a.setup ≡ true → a.read ≡ Packet → length s ≡ 8 → arrived a s p b ≡ begin_by (request_of s).direction (request_of s)
-unfolding arrived setup_come begun parsed
+unfolding arrived setup_come begun
 accepted a s p b o r e =
-    let g : parsed s ≡ Good (request_of s) = rw e refl in
-    rw o (ap (λ (x : Read). setup_come x s p b) r ∙ ap (λ (x : Parsed). begun x p b) g)
+    let g : parsed s ≡ Ok (request_of s) = rw e refl in
+    rw o (ap (λ (x : Read). setup_come x s p b) r ∙ ap (λ (x : Result Request Refusal). begun x p b) g)
 
 pub data-done : (a : Arrival) (r : Record) (s book : List ℕ) (l : Live) (b : List ℕ) → handled (Data a) r s book l b ≡ data_come r (not (awake l.kept.state)) a s book (woken l) b
 unfolding handled happens_to
@@ -290,7 +283,6 @@ setup-device d a book s room z o r e =
     ∙ ap₂ (λ (b : Bool) (n : ℕ). made (followed d.profile M.done tick taken book (record { pipe = M.pipe; kept = w.kept; before = Default; book = n; built = b }) M.buffer)) u.built (sym u.same)))
 
 close : (d d' : Device) → Agree d d' → Close d.live.kept d'.live.kept
-unfolding halted
 close d d' a =
     let k = d.live.kept in
     let k' = d'.live.kept in

@@ -9,25 +9,23 @@ use Rattle.common.specs.Lists.{every, member, none_twice}
 use Rattle.control.specs.declared.Direction.{Direction}
 use Rattle.control.specs.declared.Direction.TheVariants.{In, Out}
 use Rattle.control.specs.declared.Request.{Request}
-use Rattle.control.specs.Setup.{request_of, direction_of, type_of, recipient_of, parsed}
-use Rattle.plan.specs.Planning.{add_interface}
+use Rattle.control.specs.Setup.{request_of}
 use Rattle.record.specs.declared.Record.{Record}
-use Rattle.limits.specs.Limits.{packet_fine, endpoint_fine, list_fine, layout_fine, length_fine, languages_fine, lowest}
-use Rattle.descriptor.specs.Device.{said, string_number, device_bytes}
+use Rattle.descriptor.specs.Device.{device_bytes}
 use Rattle.control_pipe.specs.declared.Read.TheVariants.{Packet}
 use Rattle.control_pipe.specs.Stages.{zeros, chunk_bytes, begin_by, begun, setup_come, after_chunk, advanced, send_chunk}
-use Rattle.requests.specs.Requests.{device_in, standard_in, tiles_from, tiles_in, vendor_in, decide_in, decide_by, decided}
+use Rattle.requests.specs.Requests.{decided}
 use Rattle.writer.specs.Descriptors.{descriptor_of}
 use Rattle.answers.specs.Answers.{Answer, stall, tell, tiles, accept, buffer_of, described, answer_of, answer}
 use Rattle.live.specs.declared.Live.{Live}
-use Rattle.live.specs.Live.{book_fine, coming_fine, reply_fine, pipe_fine, live_fine, unfit, step_refusal}
+use Rattle.live.specs.Live.{book_fine, live_fine, unfit, step_refusal}
 use Rattle.effects.specs.Effects.{set_out}
 use Rattle.events.specs.declared.Write.TheVariants.{Taken}
 use Rattle.events.specs.declared.Arrival.{Arrival}
 use Rattle.events.specs.declared.Event.TheVariants.{Data}
 use Rattle.events.specs.Events.{Done, odd, woken, arrived, followed, data_come, happens, handled}
 use Rattle.device.specs.declared.Device.{Device}
-use Rattle.device.specs.Device.{refused_by, done, build_refusal, build_of, step_of}
+use Rattle.device.specs.Device.{refused_by, done, build_refusal, made, step_of}
 use Rattle.promises.specs.History.{after, ends}
 use Rattle.promises.specs.Transfers.{answer_to}
 use Rattle.promises.specs.Counts.{speaks}
@@ -37,22 +35,22 @@ use Rattle.promises.proofs.Count.{fit-positive, sets, out-silent, setup-done}
 
 -- With the Rust's rule a laptop that gave up a read of the book, and then asks for the device descriptor, is answered with bytes of
 -- the book. One that had read nothing is answered with the descriptor. With our rule both are.
-pub fault : let d = (build_of mast (length book)).device in
+pub fault : let d = made mast (length book) in
     (first_packet theirs (ends d gave_up) book describe ≡ take 8 book)
     × ((first_packet theirs (ends d nothing) book describe ≡ 18 ∷ 1 ∷ 0 ∷ 2 ∷ 0 ∷ 0 ∷ 0 ∷ 8 ∷ [])
     × ((first_packet ours (ends d gave_up) book describe ≡ 18 ∷ 1 ∷ 0 ∷ 2 ∷ 0 ∷ 0 ∷ 0 ∷ 8 ∷ [])
     × (first_packet ours (ends d nothing) book describe ≡ 18 ∷ 1 ∷ 0 ∷ 2 ∷ 0 ∷ 0 ∷ 0 ∷ 8 ∷ [])))
-unfolding placed piece every member none_twice direction_of type_of recipient_of parsed add_interface packet_fine endpoint_fine list_fine layout_fine length_fine languages_fine lowest said string_number device_bytes begin_by begun setup_come after_chunk advanced send_chunk device_in standard_in tiles_from tiles_in vendor_in decide_in decide_by decided descriptor_of described answer_of answer book_fine coming_fine reply_fine pipe_fine live_fine unfit step_refusal set_out arrived followed data_come happens handled build_refusal build_of step_of after ends first_packet
+unfolding placed piece every member none_twice device_bytes begin_by begun setup_come after_chunk advanced send_chunk decided descriptor_of described answer_of answer book_fine live_fine unfit step_refusal set_out arrived followed data_come happens handled build_refusal made step_of after ends first_packet
 fault = (refl, (refl, (refl, refl)))
 
 -- an answer with bytes sets out with its first chunk
 set-packet : (r : Record) (q : Request) (book : List ℕ) (l : Live) (n : l.book ≡ length book) (z : 0 < r.plan.basics.packet) (a : Answer) → speaks a ≡ true
     → (sets r q book l n z a).packet ≡ chunk_bytes r.plan.basics.packet (reply_of a q (length book)) (buffer_of a zeros) book
 unfolding set_out send_chunk
-set-packet r q book l n z stall e = absurd (false≢true e)
-set-packet r q book l n z (tell bytes) e = refl
-set-packet r q book l n z (tiles start) e = ap (λ (x : ℕ). chunk_bytes r.plan.basics.packet (reply_of (tiles start) q x) zeros book) n
-set-packet r q book l n z (accept x) e = absurd (false≢true e)
+set-packet r q lent l n z stall e = absurd (false≢true e)
+set-packet r q lent l n z (tell bytes) e = refl
+set-packet r q lent l n z (tiles start) e = ap (λ (x : ℕ). chunk_bytes r.plan.basics.packet (reply_of (tiles start) q x) zeros lent) n
+set-packet r q lent l n z (accept x) e = absurd (false≢true e)
 
 -- Our rule is what our mast keeps: after any past, its first packet is that of `ours`.
 pub kept : (d : Device) (a : Arrival) (book s room : List ℕ) → refused_by d book room ≡ 0 → odd a.setup ≡ true → a.read ≡ Packet → length s ≡ 8 → a.write ≡ Taken → speaks (answer_to d book s) ≡ true

@@ -8,6 +8,7 @@ use borrow.Author.Tests.{eqb-true, eqb-false}
 use lib.Dec.{eqb, ltb}
 use lib.Bits.{bit_and, bit_or, and_shr, or_shr, and_mod, or_mod}
 use Rattle.common.specs.Bytes.{front}
+use Rattle.std.specs.Prelude.{Some, None, Ok, Err}
 use Rattle.common.specs.Refusals.{refusal}
 use Rattle.control.specs.declared.EndpointAddress.{EndpointAddress}
 use Rattle.control.specs.declared.Direction.{Direction}
@@ -24,24 +25,23 @@ use Rattle.control_pipe.specs.Stages.{zeros, in_complete, accept_out}
 use Rattle.requests.specs.declared.Kept.{Kept}
 use Rattle.requests.specs.declared.Effect.{Effect}
 use Rattle.requests.specs.declared.Effect.TheVariants.{Nothing as NoEffect, Wakeup, Halt as HaltIt, Unhalt as UnhaltIt, Address as TakeAddress, Turn}
-use Rattle.requests.specs.declared.Decision.TheVariants.{Stall, Status}
-use Rattle.requests.specs.Requests.{endpoint_of, halt_place, with_halt, halted, status_bits, device_in, endpoint_in, standard_in, decide_in, standard_out, decide_out, decide_by, decided}
-use Rattle.answers.specs.Answers.{Answer, stall, tell, tiles, accept, answer_of, answer}
+use Rattle.requests.specs.declared.Decision.TheVariants.{Status}
+use Rattle.requests.specs.Requests.{endpoint_of, halt_place, with_halt, halted, status_bits, standard_in, decide_in, standard_out, decide_out, decide_by, decided}
+use Rattle.answers.specs.Answers.{Answer, stall, tell, tiles, accept, answered, answer}
 use Rattle.live.specs.declared.Live.{Live}
 use Rattle.live.specs.Live.{awake, live_fine, unfit, step_refusal}
 use Rattle.effects.specs.declared.Action.{Action}
 use Rattle.effects.specs.declared.Action.TheVariants.{Nothing as NoAction, Reset as TellReset, Suspend as TellSuspend}
-use Rattle.effects.specs.Effects.{Second, with_pipe, with_kept, stalling, halting, awaiting, effected, set_out, ticked}
+use Rattle.effects.specs.Effects.{Second, with_pipe, with_kept, stalling, halting, effected, set_out, ticked}
 use Rattle.events.specs.declared.Arrival.{Arrival}
 use Rattle.events.specs.declared.Event.{Event}
 use Rattle.events.specs.declared.Event.TheVariants.{Nothing, Reset, Suspend, Resume, Data}
 use Rattle.events.specs.Events.{Done, odd, arrived, replied, taken_by, followed, data_come, plain, suspended, restarted, woken, dull, happens as happens_to, handled, handled_of, told_by}
 use Rattle.actions.specs.Actions.{packed}
 use Rattle.device.specs.declared.Device.{Device}
-use Rattle.device.specs.declared.Built.{Built}
 use Rattle.device.specs.declared.Polled.{Polled}
-use Rattle.device.specs.Device.{masks_of, polled_of, refused_poll, refused_by, unfit_device, step_of, stepped_to, room_of, handed_of, handed_room, with_powered, powered_of, done}
-use Rattle.promises.specs.History.{Moment, happens, powers, asks, after, Shown, stepped, set, shown, seen}
+use Rattle.device.specs.Device.{masks_of, polled_of, refused_by, unfit_device, step_of, stepped_to, room_of, handed_room, with_powered, powered_of, done}
+use Rattle.promises.specs.History.{Moment, happens, powers, asks, after, Shown, stepped, shown, seen}
 
 -- ---- masks that agree on every endpoint but 0
 
@@ -80,14 +80,13 @@ and-bits h h' g b =
 -- ---- what a request is answered with
 
 abbrev pub kept_with : ℕ → Kept → Kept
-kept_with h k = record { state = k.state; wakeup = k.wakeup; powered = k.powered; halts = h }
+kept_with h k = record k { halts = h }
 
 abbrev pub live_with : ℕ → Live → Live
-live_with h l = record { pipe = l.pipe; kept = kept_with h l.kept; before = l.before; book = l.book; built = l.built }
+live_with h l = record l { kept = kept_with h l.kept }
 
 module _ (k : Kept) (h : ℕ) (b : Bits k.halts h) where
   halted-same : (p : Pipe) (e : EndpointAddress) → halted (kept_with h k) p e ≡ halted k p e
-  unfolding halted
   halted-same p e = by (eqb (e.0 % 16) 0) refl
     where
       by : (t : Bool) → eqb (e.0 % 16) 0 ≡ t → cond t (cond (ltb e.0 128) p.stallout p.stallin) (eqb (h / 2 ^ halt_place e % 2) 1) ≡ cond t (cond (ltb e.0 128) p.stallout p.stallin) (eqb (k.halts / 2 ^ halt_place e % 2) 1)
@@ -95,22 +94,19 @@ module _ (k : Kept) (h : ℕ) (b : Bits k.halts h) where
       by false z = ap (λ (x : ℕ). eqb x 1) (sym (b.bit e (eqb-false (e.0 % 16) 0 z)))
 
   standard-same : (w : Recipient) (p : Pipe) (q : Request) → standard_in w (kept_with h k) p q ≡ standard_in w k p q
-  unfolding standard_in device_in endpoint_in
   standard-same OfDevice p q = refl
   standard-same Interface p q = refl
-  standard-same Endpoint p q = ap (λ (x : Bool). cond (eqb q.request 0) (Status (status_bits x 1)) Stall) (halted-same p (endpoint_of q.index))
+  standard-same Endpoint p q = ap (λ (x : Bool). cond (eqb q.request 0) (Some (Status (status_bits x 1))) None) (halted-same p (endpoint_of q.index))
   standard-same Other p q = refl
   standard-same Reserved p q = refl
 
   in-same : (t : RequestType) (p : Pipe) (q : Request) (n : ℕ) → decide_in t (kept_with h k) p q n ≡ decide_in t k p q n
-  unfolding decide_in
   in-same Standard p q n = standard-same q.recipient p q
   in-same Class p q n = refl
   in-same Vendor p q n = refl
   in-same ReservedType p q n = refl
 
   out-recipient : (w : Recipient) (q : Request) → standard_out w (kept_with h k) q ≡ standard_out w k q
-  unfolding standard_out
   out-recipient OfDevice q = refl
   out-recipient Interface q = refl
   out-recipient Endpoint q = refl
@@ -118,20 +114,18 @@ module _ (k : Kept) (h : ℕ) (b : Bits k.halts h) where
   out-recipient Reserved q = refl
 
   out-same : (t : RequestType) (q : Request) → decide_out t (kept_with h k) q ≡ decide_out t k q
-  unfolding decide_out
   out-same Standard q = out-recipient q.recipient q
   out-same Class q = refl
   out-same Vendor q = refl
   out-same ReservedType q = refl
 
   by-same : (d : Direction) (p : Pipe) (q : Request) (n : ℕ) → decide_by d (kept_with h k) p q n ≡ decide_by d k p q n
-  unfolding decide_by
   by-same In p q n = in-same q.kind p q n
   by-same Out p q n = out-same q.kind q
 
   answer-same : (r : Record) (p : Pipe) (n : ℕ) → answer r (kept_with h k) p n ≡ answer r k p n
   unfolding answer decided
-  answer-same r p n = ap (answer_of r p.request) (by-same p.request.direction p p.request n)
+  answer-same r p n = ap (answered r p.request) (by-same p.request.direction p p.request n)
 
 -- ---- half an event
 
@@ -157,7 +151,6 @@ module _ (l : Live) (h : ℕ) (b : Bits l.kept.halts h) where
   itself = record { halts = h; live = refl; bits = b }
 
   halting-kin : (e : EndpointAddress) (on : Bool) → Kin (halting e on l) (halting e on (live_with h l))
-  unfolding halting
   halting-kin e on = by (eqb (e.0 % 16) 0) (ltb e.0 128) on
     where
       by : (t u v : Bool) → Kin (cond t (cond u (with_pipe (stalling v l.pipe.stallin l.pipe) l) (with_pipe (stalling l.pipe.stallout v l.pipe) l)) (with_kept (with_halt e v l.kept) l))
@@ -168,7 +161,6 @@ module _ (l : Live) (h : ℕ) (b : Bits l.kept.halts h) where
       by false u false = record { halts = bit_and h (4294967295 - 2 ^ halt_place e); live = refl; bits = and-bits l.kept.halts h (4294967295 - 2 ^ halt_place e) b }
 
   effected-kin : (e : Effect) (quirk : Bool) → Kin (effected e quirk l) (effected e quirk (live_with h l))
-  unfolding effected awaiting
   effected-kin NoEffect quirk = itself
   effected-kin (Wakeup on) quirk = record { halts = h; live = refl; bits = b }
   effected-kin (HaltIt e) quirk = halting-kin e true
@@ -248,7 +240,7 @@ handled-kin l h b e r s book c =
 -- ---- a device
 
 abbrev pub device_with : ℕ → Device → Device
-device_with h d = record { profile = d.profile; live = live_with h d.live; buffer = d.buffer }
+device_with h d = record d { live = live_with h d.live }
 
 -- two devices, equal but for bits of the mask that are no endpoint's
 pub record Alike (d d' : Device) : Type 0 where
@@ -259,7 +251,7 @@ pub record Alike (d d' : Device) : Type 0 where
 polled-kin : (x y : Done) (e : Event) → KinDone x y → polled_of (handled_of y) e ≡ polled_of (handled_of x) e
 polled-kin x y e k =
     let made : Bool → Told → Action → Told → Bool → Polled =
-    λ resumed first act second answer. record { refusal = refusal 0; answer = answer; masks = masks_of e; actions = packed (told_by resumed first act second) } in
+    λ resumed first act second answer. record { answer = answer; masks = masks_of e; actions = packed (told_by resumed first act second) } in
     ap₂ (λ (i : Bool) (j : Told). made i j y.act y.second y.answer) k.resumed k.first
     ∙ (ap₂ (λ (i : Action) (j : Told). made x.resumed x.first i j y.answer) k.act k.second ∙ ap (λ (i : Bool). made x.resumed x.first x.act x.second i) k.answer)
 
@@ -284,12 +276,12 @@ module _ (d : Device) (h : ℕ) (b : Bits d.live.kept.halts h) where
 
     stepped-kin : (t : Bool)
         → (let n = refused_by d book room in
-        let u = cond t (stepped_to d e x) (record { device = d; polled = refused_poll (refusal n) }) in
-        let v = cond t (stepped_to d' e y) (record { device = d'; polled = refused_poll (refusal n) }) in
-        (stepped v.polled (cond t (front y.packet room) room) ≡ stepped u.polled (cond t (front x.packet room) room)) × Alike u.device v.device)
+        let u = cond t (stepped_to d e x) (record { device = d; said = Err (refusal n) }) in
+        let v = cond t (stepped_to d' e y) (record { device = d'; said = Err (refusal n) }) in
+        (stepped v.said (cond t (front y.packet room) room) ≡ stepped u.said (cond t (front x.packet room) room)) × Alike u.device v.device)
     stepped-kin true =
         let l = k.live in (
-          ap₂ (λ (i : Polled) (j : List ℕ). stepped i (front j room)) (polled-kin x y e k) k.packet,
+          ap₂ (λ (i : Polled) (j : List ℕ). stepped (Ok i) (front j room)) (polled-kin x y e k) k.packet,
           record {
             halts = l.halts;
             same = ap₂ {C = Device} (λ (i : Live) (j : List ℕ). record { profile = d.profile; live = i; buffer = j }) l.live k.buffer;
@@ -302,18 +294,14 @@ module _ (d : Device) (h : ℕ) (b : Bits d.live.kept.halts h) where
     unfolding after shown step_of room_of step_refusal unfit live_fine
     happens-both = let z = stepped-kin (eqb (refused_by d book room) 0) in record { shows = z.0; leads = z.1 }
 
-  abbrev Set : Built → Built → Type 0
-  Set u v = (set v.refusal ≡ set u.refusal) × Alike u.device v.device
-
   powers-both : (on : Bool) → Both (powers on)
   unfolding after shown powered_of unfit live_fine
   powers-both on =
-      let z = cond_both Set (eqb (unfit_device d) 0) (record { device = with_powered on d; refusal = refusal 0 }) (record { device = d; refusal = refusal (unfit_device d) }) (record { device = with_powered on d'; refusal = refusal 0 }) (record { device = d'; refusal = refusal (unfit_device d) })
-      (refl, record { halts = h; same = refl; bits = b }) (refl, record { halts = h; same = refl; bits = b }) in
-      record { shows = z.0; leads = z.1 }
+      let z = cond_both Alike (eqb (unfit_device d) 0) (with_powered on d) d (with_powered on d') d' (record { halts = h; same = refl; bits = b }) (record { halts = h; same = refl; bits = b }) in
+      record { shows = refl; leads = z }
 
   asks_both : (room : List ℕ) → Both (asks room)
-  unfolding after shown handed_of handed_room unfit live_fine
+  unfolding after shown handed_room unfit live_fine
   asks_both room = record { shows = refl; leads = record { halts = h; same = refl; bits = b } }
 
   both : (m : Moment) → Both m
@@ -324,8 +312,8 @@ module _ (d : Device) (h : ℕ) (b : Bits d.live.kept.halts h) where
 -- nothing that happens later tells them apart
 pub alike-seen : (ms : List Moment) (d d' : Device) → Alike d d' → seen d' ms ≡ seen d ms
 unfolding seen
-alike-seen [] d d' a = refl
-alike-seen (m ∷ ms) d d' a =
+alike-seen [] d c a = refl
+alike-seen (m ∷ ms) d c a =
     let e = device_with a.halts d in
     let z = both d a.halts a.bits m in
     ap (λ (x : Device). shown x m ∷ seen (after x m) ms) a.same ∙ ap₂ (λ (x : Shown) (y : List Shown). x ∷ y) z.shows (alike-seen ms (after d m) (after e m) z.leads)

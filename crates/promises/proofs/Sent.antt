@@ -10,6 +10,7 @@ use lib.Dec.{eqb}
 use lib.ListN.{length, take, drop}
 use lib.Seq.{take_at}
 use Rattle.common.specs.Bytes.{front}
+use Rattle.std.specs.Prelude.{Err}
 use Rattle.common.specs.Refusals.{refusal}
 use Rattle.common.proofs.Laws.{cond-elim}
 use Rattle.record.specs.declared.Record.{Record}
@@ -22,12 +23,11 @@ use Rattle.events.specs.Events.{Done, listed, alone, told_by}
 use Rattle.actions.specs.Actions.{packed, slots}
 use Rattle.device.specs.declared.Device.{Device}
 use Rattle.device.specs.declared.Stepped.{Stepped}
-use Rattle.device.specs.declared.Built.{Built}
-use Rattle.device.specs.Device.{refused_by, refused_poll, unfit_device, step_of, room_of, done, powered_of}
+use Rattle.device.specs.Device.{refused_by, unfit_device, step_of, room_of, done, powered_of}
 use Rattle.steady.specs.Steady.{is_write, writes}
 use Rattle.steady.proofs.Actions.{five, write-last}
 use Rattle.steady.proofs.Packets.{told_length, short}
-use Rattle.promises.specs.History.{Moment, happens, powers, asks, after, shown, seen}
+use Rattle.promises.specs.History.{Moment, happens, powers, asks, after, shown, told_in, seen}
 use Rattle.promises.specs.Transfers.{taken_of, packets, gone, joined, length_of, All, Within, Bounded}
 use Rattle.steady.proofs.Usable.{step-taken}
 
@@ -129,7 +129,7 @@ listed-took (Declined n) packet room x l = refl
 -- ---- the step
 
 module _ (d : Device) (book : List ℕ) (e : Event) (s room : List ℕ) where
-  pub step-refused : eqb (refused_by d book room) 0 ≡ false → step_of d book e s room ≡ record { device = d; polled = refused_poll (refusal (refused_by d book room)) }
+  pub step-refused : eqb (refused_by d book room) 0 ≡ false → step_of d book e s room ≡ record { device = d; said = Err (refusal (refused_by d book room)) }
   unfolding step_of
   step-refused z = rw z refl
 
@@ -140,7 +140,7 @@ module _ (d : Device) (book : List ℕ) (e : Event) (s room : List ℕ) where
   -- a refused call sends nothing
   pub gone-refused : eqb (refused_by d book room) 0 ≡ false → gone (shown d (happens e book s room)) ≡ []
   unfolding gone shown packets
-  gone-refused z = ap (λ (x : Stepped). packets (room_of d book e s room) (slots x.polled.actions)) (step-refused z)
+  gone-refused z = ap (λ (x : Stepped). packets (room_of d book e s room) (told_in x.said)) (step-refused z)
 
   -- a step sends what it tells last
   pub gone-taken : refused_by d book room ≡ 0 → gone (shown d (happens e book s room)) ≡ packets (front (done d book e s).packet room) (listed (done d book e s).second)
@@ -148,7 +148,7 @@ module _ (d : Device) (book : List ℕ) (e : Event) (s room : List ℕ) where
   gone-taken z =
       let x = done d book e s in
       let q = write-last e d.profile s book d.live d.buffer in
-      ap₂ (λ (x : Stepped) (y : List ℕ). packets y (slots x.polled.actions)) (step-taken d book e s room z) (room-taken z)
+      ap₂ (λ (x : Stepped) (y : List ℕ). packets y (told_in x.said)) (step-taken d book e s room z) (room-taken z)
       ∙ told-packets (front x.packet room) x (five e d.profile s book d.live d.buffer) q.0 q.1
 
 -- ---- no packet is longer than the packet size
@@ -192,7 +192,7 @@ module _ (d : Device) where
   abbrev packet : ℕ
   packet = d.profile.plan.basics.packet
 
-  step-within : (book : List ℕ) (e : Event) (s room : List ℕ) → All (Fitting packet) (slots (step_of d book e s room).polled.actions)
+  step-within : (book : List ℕ) (e : Event) (s room : List ℕ) → All (Fitting packet) (told_in (step_of d book e s room).said)
   unfolding step_of
   step-within book e s room =
       let x = done d book e s in
@@ -200,12 +200,12 @@ module _ (d : Device) where
       let P = Fitting packet in
       let none : 0 ≤ packet = omega arith in
       let l = (short e d.profile s book d.live d.buffer).told in
-      cond-elim (λ (y : Stepped). All P (slots y.polled.actions)) (eqb (refused_by d book room) 0) _ _
+      cond-elim (λ (y : Stepped). All P (told_in y.said)) (eqb (refused_by d book room) 0) _ _
       (λ t. all_slots P (told_by x.resumed x.first x.act x.second) none
       (all_append P (cond x.resumed (TellResume ∷ []) []) (listed x.first ++ (alone x.act ++ listed x.second)) (all-resumed packet x.resumed)
       (all_append P (listed x.first) (alone x.act ++ listed x.second) (all_none packet (listed x.first) q.0)
       (all_append P (alone x.act) (listed x.second) (all_none packet (alone x.act) q.1) (all_listed packet x.second l)))))
-      (λ t. all_slots P [] none tt)
+      (λ t. tt)
 
   within : (m : Moment) → Within packet (shown d m)
   unfolding shown
@@ -217,7 +217,7 @@ module _ (d : Device) where
   pub kept-profile : (m : Moment) → (after d m).profile ≡ d.profile
   unfolding after step_of powered_of
   kept-profile (happens e book s room) = cond-elim (λ (x : Stepped). x.device.profile ≡ d.profile) (eqb (refused_by d book room) 0) _ _ (λ t. refl) (λ t. refl)
-  kept-profile (powers on) = cond-elim (λ (x : Built). x.device.profile ≡ d.profile) (eqb (unfit_device d) 0) _ _ (λ t. refl) (λ t. refl)
+  kept-profile (powers on) = cond-elim (λ (x : Device). x.profile ≡ d.profile) (eqb (unfit_device d) 0) _ _ (λ t. refl) (λ t. refl)
   kept-profile (asks room) = refl
 
 -- No mast, whatever happened to it and whatever happens, tells the bus of a packet longer than the packet size of its record.

@@ -8,6 +8,7 @@ use borrow.Author.Tests.{le-leb, leb-true, eqb-true}
 use lib.Dec.{eqb, leb, ltb}
 use lib.ListN.{length, take, drop, length-drop}
 use lib.Seq.{take-add, drop-drop, take-append-le, length-take-le}
+use Rattle.std.specs.Prelude.{Option, Some, None}
 use Rattle.common.specs.Bytes.{part, placed, piece}
 use Rattle.common.proofs.Laws.{cond-elim, and_left, and_right, length-placed}
 use Rattle.control.specs.declared.Direction.{Direction}
@@ -29,20 +30,19 @@ use Rattle.requests.specs.declared.Kept.{Kept}
 use Rattle.requests.specs.declared.Effect.{Effect}
 use Rattle.requests.specs.declared.Effect.TheVariants.{Nothing as NoEffect, Wakeup, Halt as HaltIt, Unhalt as UnhaltIt, Address as TakeAddress, Turn}
 use Rattle.requests.specs.declared.Decision.{Decision}
-use Rattle.requests.specs.declared.Decision.TheVariants.{Stall, Status, Byte, Describe, Tiles, Accept}
+use Rattle.requests.specs.declared.Decision.TheVariants.{Status, Byte, Describe, Tiles, Accept}
 use Rattle.requests.specs.Requests.{decide_out, decide_by, decided}
-use Rattle.answers.specs.Answers.{Answer, stall, tell, tiles, accept, answer_of, answer, verdict_of, bytes_of as answer_bytes}
+use Rattle.answers.specs.Answers.{Answer, stall, tell, tiles, accept, answer_of, answered, answer, verdict_of, bytes_of as answer_bytes}
 use Rattle.live.specs.declared.Live.{Live}
 use Rattle.live.specs.Live.{awake, source_room}
-use Rattle.effects.specs.Effects.{Second, with_pipe, halting, awaiting, effected, accepted, set_out, ticked}
+use Rattle.effects.specs.Effects.{Second, with_pipe, effected, accepted, set_out, ticked}
 use Rattle.events.specs.declared.Arrival.{Arrival}
 use Rattle.events.specs.declared.Event.{Event}
 use Rattle.events.specs.declared.Event.TheVariants.{Nothing, Reset, Suspend, Resume, Data}
 use Rattle.events.specs.Events.{Done, odd, arrived, replied, taken_by, followed, data_come, woken, dull, happens as happens_to, handled}
 use Rattle.device.specs.declared.Device.{Device}
 use Rattle.device.specs.declared.Stepped.{Stepped}
-use Rattle.device.specs.declared.Built.{Built}
-use Rattle.device.specs.Device.{build_refusal, build_of, refused_by, unfit_device, step_of, powered_of, done}
+use Rattle.device.specs.Device.{build_refusal, made, refused_by, unfit_device, step_of, powered_of, done}
 use Rattle.steady.proofs.Decisions.{decide-out-elim}
 use Rattle.steady.proofs.Moves.{begin-elim, arrived-elim, in-elim}
 use Rattle.steady.proofs.Keeps.{FitsOf, pipe-facts, arrived-holds, Sound, answer-sound}
@@ -199,13 +199,13 @@ is-packet Fault e = absurd (false≢true e)
 
 -- ---- what an OUT request is decided to: a stall, or an effect
 
-abbrev pub Bare : Decision → Type 0
-Bare Stall = Unit {0}
-Bare (Status n) = ⊥
-Bare (Byte n) = ⊥
-Bare Describe = ⊥
-Bare (Tiles n) = ⊥
-Bare (Accept e) = Unit {0}
+abbrev pub Bare : Option Decision → Type 0
+Bare None = Unit {0}
+Bare (Some (Status n)) = ⊥
+Bare (Some (Byte n)) = ⊥
+Bare (Some Describe) = ⊥
+Bare (Some (Tiles n)) = ⊥
+Bare (Some (Accept e)) = Unit {0}
 
 pub bare : (k : Kept) (q : Request) → Bare (decide_out q.kind k q)
 bare k q = decide-out-elim Bare tt k q tt (λ on. tt) (λ e. tt) (λ e. tt) (λ a l t w c v. tt) (λ s e. tt)
@@ -213,7 +213,6 @@ bare k q = decide-out-elim Bare tt k q tt (λ on. tt) (λ e. tt) (λ e. tt) (λ 
 -- ---- the second half of an event
 
 pub effected-stage : (e : Effect) (quirk : Bool) (l : Live) → (effected e quirk l).pipe.stage ≡ l.pipe.stage
-unfolding effected halting awaiting
 effected-stage NoEffect quirk l = refl
 effected-stage (Wakeup on) quirk l = refl
 effected-stage (HaltIt e) quirk l =
@@ -259,14 +258,14 @@ module _ (book : List ℕ) (r : Record) where
         by false x f = record { under = f; exact = tt }
 
     -- an OUT request sends nothing of an answer
-    out-next : (d : Decision) → Bare d → l.pipe.stage ≡ CompleteOut → Second-next owed sent (replied (answer_of r l.pipe.request d) size quirk taken book l b)
+    out-next : (d : Option Decision) → Bare d → l.pipe.stage ≡ CompleteOut → Second-next owed sent (replied (answered r l.pipe.request d) size quirk taken book l b)
     unfolding answer_of set_out
-    out-next Stall f e = record { under = tt; exact = tt }
-    out-next (Status n) f e = absurd f
-    out-next (Byte n) f e = absurd f
-    out-next Describe f e = absurd f
-    out-next (Tiles n) f e = absurd f
-    out-next (Accept x) f e = accept-next x CompleteOut e (λ a q s. tt)
+    out-next None f e = record { under = tt; exact = tt }
+    out-next (Some (Status n)) f e = absurd f
+    out-next (Some (Byte n)) f e = absurd f
+    out-next (Some Describe) f e = absurd f
+    out-next (Some (Tiles n)) f e = absurd f
+    out-next (Some (Accept x)) f e = accept-next x CompleteOut e (λ a q s. tt)
 
     ticked-next : Under book l.pipe b owed sent → l.pipe.reply.sent ≤ l.pipe.reply.len → l.pipe.reply.start + l.pipe.reply.len ≤ length (bytes_of l.pipe.reply.source b book)
         → Second-next owed sent (ticked size quirk taken book l b)
@@ -286,10 +285,10 @@ module _ (book : List ℕ) (r : Record) where
 
     -- an OUT request came out
     decides-next : (tick : Bool) → l.pipe.request.direction ≡ Out → l.pipe.stage ≡ CompleteOut → Second-next owed sent (followed r true tick taken book l b)
-    unfolding followed answer decided decide_by
+    unfolding followed answer decided
     decides-next tick o e =
         let q = l.pipe.request in
-        subst⁻¹ (λ (x : Direction). Second-next owed sent (replied (answer_of r q (decide_by x l.kept l.pipe q l.book)) size quirk taken book l b)) o (out-next (decide_out q.kind l.kept q) (bare l.kept q) e)
+        subst⁻¹ (λ (x : Direction). Second-next owed sent (replied (answered r q (decide_by x l.kept l.pipe q l.book)) size quirk taken book l b)) o (out-next (decide_out q.kind l.kept q) (bare l.kept q) e)
 
   -- ---- the event of an accepted SETUP
 
@@ -422,7 +421,7 @@ module _ (book : List ℕ) (g : Log) (c : AlongOf book g) where
 
   powers-along : (on : Bool) → AlongOf book (next g (powers on))
   unfolding next opens after gone shown powered_of
-  powers-along on = cond-elim (λ (x : Built). Along book x.device g.owed (joined (g.sent ++ []))) (eqb (unfit_device d) 0) _ _ (λ t. record { whole = c.whole; under = still-along.under }) (λ t. still-along)
+  powers-along on = cond-elim (λ (x : Device). Along book x g.owed (joined (g.sent ++ []))) (eqb (unfit_device d) 0) _ _ (λ t. record { whole = c.whole; under = still-along.under }) (λ t. still-along)
 
   asks-along : (room : List ℕ) → AlongOf book (next g (asks room))
   unfolding next opens after gone shown
@@ -483,8 +482,8 @@ along book (powers on ∷ ms) g l c = along book ms (next g (powers on)) l (powe
 along book (asks room ∷ ms) g l c = along book ms (next g (asks room)) l (asks-along book g c room)
 
 built-along : (r : Record) (n : ℕ) (book : List ℕ) → AlongOf book (begin r n)
-unfolding build_of
-built-along r n book = cond-elim (λ (x : Built). Along book x.device [] (joined [])) (eqb (build_refusal r n) 0) _ _ (λ t. record { whole = refl; under = tt }) (λ t. record { whole = refl; under = tt })
+unfolding made
+built-along r n book = cond-elim (λ (x : Device). Along book x [] (joined [])) (eqb (build_refusal r n) 0) _ _ (λ t. record { whole = refl; under = tt }) (λ t. record { whole = refl; under = tt })
 
 arrives : (book : List ℕ) (t : Stage) (a : Reply) (q : Request) (b owed sent : List ℕ) → t ≡ StatusOut → UnderAt book t a q b owed sent → sent ≡ owed
 arrives book t a q b owed sent e u = subst (λ (x : Stage). UnderAt book x a q b owed sent) e u

@@ -1,6 +1,5 @@
--- Demand 3, addresses: which request a history remembers, and which address it names.
-use Rattle.std.specs.Prelude.{ℕ, Bool, true, false, cond, List, [], ◌∷◌, ◌≡◌, eqb}
-use Rattle.std.proofs.Math.Option.{Option, some, none}
+-- Addresses: which request a history remembers, and which address it names.
+use Rattle.std.specs.Prelude.{ℕ, Bool, true, false, cond, List, [], ◌∷◌, ◌≡◌, eqb, Option, Some, None}
 use Rattle.control.specs.declared.BusAddress.{BusAddress}
 use Rattle.control.specs.declared.Direction.TheVariants.{Out}
 use Rattle.control.specs.declared.RequestType.TheVariants.{Standard}
@@ -14,10 +13,9 @@ use Rattle.effects.specs.declared.Action.TheVariants.{Nothing as NoAction, Resum
 use Rattle.events.specs.declared.Event.{Event}
 use Rattle.events.specs.declared.Event.TheVariants.{Nothing, Reset, Suspend, Resume, Data}
 use Rattle.events.specs.Events.{odd, arrived}
-use Rattle.actions.specs.Actions.{slots}
 use Rattle.device.specs.declared.Device.{Device}
-use Rattle.device.specs.Device.{build_of, refused_by}
-use Rattle.promises.specs.History.{Moment, happens, powers, asks, after, Shown, stepped, set, handed}
+use Rattle.device.specs.Device.{made, refused_by}
+use Rattle.promises.specs.History.{Moment, happens, powers, asks, after, Shown, stepped, set, handed, told_in}
 use Rattle.promises.specs.Transfers.{accepts, All}
 
 -- ---- the request of the last accepted SETUP, if no reset came after it
@@ -30,7 +28,7 @@ resets Resume = false
 resets (Data a) = false
 
 unfoldable pub last_by : Event → List ℕ → Option Request → Option Request
-last_by e s last = cond (accepts e s) (some (request_of s)) (cond (resets e) none last)
+last_by e s last = cond (accepts e s) (Some (request_of s)) (cond (resets e) None last)
 
 -- a refused call is no event
 unfoldable pub last_after : Device → Option Request → Moment → Option Request
@@ -50,7 +48,7 @@ tale t [] = t
 tale t (m ∷ ms) = tale (further t m) ms
 
 abbrev pub opening : Record → ℕ → Tale
-opening r n = record { device = (build_of r n).device; last = none }
+opening r n = record { device = made r n; last = None }
 
 -- ---- SET_ADDRESS (section 9.4.6): the request that names an address
 
@@ -62,8 +60,8 @@ pub record Names (q : Request) (a : BusAddress) : Type 0 where
   pub value : q.value ≡ a.0
 
 abbrev pub Named : Option Request → BusAddress → Type 0
-Named none a = ⊥
-Named (some q) a = Names q a
+Named None a = ⊥
+Named (Some q) a = Names q a
 
 -- ---- what is claimed of the address actions of a moment
 
@@ -83,7 +81,7 @@ Acts P (Write n) = Unit {0}
 Acts P (Refused n) = Unit {0}
 
 abbrev pub Addresses : (BusAddress → Type 0) → Shown → Type 0
-Addresses P (stepped p room) = All (Acts P) (slots p.actions)
+Addresses P (stepped p room) = All (Acts P) (told_in p)
 Addresses P (set why) = Unit {0}
 Addresses P (handed h room) = Unit {0}
 

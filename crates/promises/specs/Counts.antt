@@ -1,4 +1,4 @@
--- Document 01, module 3: IN-completes alone, with every write taken.
+-- IN-completes alone, with every write taken.
 use Rattle.std.specs.Prelude.{ℕ, ◌≤◌, Bool, true, false, List, [], ◌∷◌, ◌≡◌, length}
 use Rattle.answers.specs.Answers.{Answer, stall, tell, tiles, accept}
 use Rattle.events.specs.declared.Write.TheVariants.{Taken}

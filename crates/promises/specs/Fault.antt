@@ -1,5 +1,5 @@
--- Document 01, "Where we part from the Rust": the fault of the pans. Of what a pipe reads an answer from, with the rule that did it and
--- with ours, and two short histories that tell them apart.
+-- The fault of the pans: what a pipe reads an answer from, with the rule that did it and with ours, and two short histories that tell
+-- them apart.
 use Rattle.std.specs.Prelude.{ℕ, ◌-◌, Bool, true, false, cond, not, ◌&&◌, List, [], ◌∷◌, ltb, length, replicate}
 use Rattle.control.specs.declared.Request.{Request}
 use Rattle.control.specs.Setup.{request_of}

@@ -1,15 +1,17 @@
--- Document 01, "What is to be nailed down", demand 3: histories of a device, and what can be seen of them.
-use Rattle.std.specs.Prelude.{ℕ, ◌%◌, Bool, List, [], ◌∷◌, ◌≡◌, length}
+-- Histories of a device, and what can be seen of them.
+use Rattle.std.specs.Prelude.{ℕ, ◌%◌, Bool, List, [], ◌∷◌, ◌≡◌, length, Option, Some, None, Result, Ok, Err, ⊤}
 use Rattle.common.specs.declared.Refusal.{Refusal}
+use Rattle.common.specs.Refusals.{unless}
 use Rattle.control.specs.declared.EndpointAddress.{EndpointAddress}
 use Rattle.requests.specs.Requests.{halted}
+use Rattle.effects.specs.declared.Action.{Action}
 use Rattle.events.specs.declared.Event.{Event}
+use Rattle.actions.specs.Actions.{slots}
 use Rattle.device.specs.declared.Device.{Device}
 use Rattle.device.specs.declared.Polled.{Polled}
-use Rattle.device.specs.declared.Handed.{Handed}
 use Rattle.device.specs.Device.{refused_by, unfit_device, data_refused, step_of, room_of, handed_of, handed_room, powered_of}
 
--- what demand 3 lets outlive a SETUP: device state, remote wakeup, self-powered flag, and the halts of endpoints 1 to 15 (an
+-- what may outlive a SETUP: device state, remote wakeup, self-powered flag, and the halts of endpoints 1 to 15 (an
 -- endpoint's number is its address modulo 16)
 pub record Agree (d d' : Device) : Type 0 where
   pub state : d.live.kept.state ≡ d'.live.kept.state
@@ -25,19 +27,24 @@ pub data Moment : Type 0 where
 
 unfoldable pub after : Device → Moment → Device
 after d (happens e book s room) = (step_of d book e s room).device
-after d (powers on) = (powered_of d on).device
+after d (powers on) = powered_of d on
 after d (asks room) = d
 
 -- what a moment lets the owner see: answers, refusals, and every byte of the lent room
 pub data Shown : Type 0 where
-  stepped : Polled → List ℕ → Shown
-  set : Refusal → Shown
-  handed : Handed → List ℕ → Shown
+  stepped : Result Polled Refusal → List ℕ → Shown
+  set : Result ⊤ Refusal → Shown
+  handed : Result ℕ Refusal → List ℕ → Shown
 
 unfoldable pub shown : Device → Moment → Shown
-shown d (happens e book s room) = stepped (step_of d book e s room).polled (room_of d book e s room)
-shown d (powers on) = set (powered_of d on).refusal
+shown d (happens e book s room) = stepped (step_of d book e s room).said (room_of d book e s room)
+shown d (powers on) = set (unless (unfit_device d) tt)
 shown d (asks room) = handed (handed_of d (length room)) (handed_room d room)
+
+-- what the bus is told in a step, slot by slot; in a refused one nothing
+abbrev pub told_in : Result Polled Refusal → List Action
+told_in (Ok p) = slots p.actions
+told_in (Err why) = []
 
 -- where a history leads
 unfoldable pub ends : Device → List Moment → Device
@@ -68,7 +75,11 @@ left (stepped p room) = room
 left (set why) = []
 left (handed h room) = room
 
-abbrev pub why : Shown → Refusal
-why (stepped p room) = p.refusal
-why (set r) = r
-why (handed h room) = h.refusal
+abbrev pub refusal_in : {A : Type 0} → Result A Refusal → Option Refusal
+refusal_in (Ok x) = None
+refusal_in (Err why) = Some why
+
+abbrev pub why : Shown → Option Refusal
+why (stepped p room) = refusal_in p
+why (set r) = refusal_in r
+why (handed h room) = refusal_in h

@@ -1,4 +1,4 @@
--- Demand 3, transfers: what a history has sent since its last accepted SETUP, and what that SETUP was owed.
+-- Transfers: what a history has sent since its last accepted SETUP, and what that SETUP was owed.
 use Rattle.std.specs.Prelude.{ℕ, ◌≤◌, min, Bool, true, false, cond, ◌&&◌, List, [], ◌∷◌, ◌++◌, ◌≡◌, eqb, length, take}
 use Rattle.control.specs.Setup.{request_of}
 use Rattle.record.specs.declared.Record.{Record}
@@ -12,10 +12,9 @@ use Rattle.effects.specs.declared.Action.TheVariants.{Nothing as NoAction, Resum
 use Rattle.events.specs.declared.Event.{Event}
 use Rattle.events.specs.declared.Event.TheVariants.{Nothing, Reset, Suspend, Resume, Data}
 use Rattle.events.specs.Events.{odd, woken}
-use Rattle.actions.specs.Actions.{slots}
 use Rattle.device.specs.declared.Device.{Device}
-use Rattle.device.specs.Device.{build_of, refused_by}
-use Rattle.promises.specs.History.{Moment, happens, powers, asks, after, Shown, stepped, set, handed, shown}
+use Rattle.device.specs.Device.{made, refused_by}
+use Rattle.promises.specs.History.{Moment, happens, powers, asks, after, Shown, stepped, set, handed, shown, told_in}
 
 -- ---- an accepted SETUP
 
@@ -72,7 +71,7 @@ packets room (a ∷ l) = taken_of room a ++ packets room l
 
 -- the packets that a moment sends
 unfoldable pub gone : Shown → List (List ℕ)
-gone (stepped p room) = packets room (slots p.actions)
+gone (stepped p room) = packets room (told_in p)
 gone (set why) = []
 gone (handed h room) = []
 
@@ -107,7 +106,7 @@ Lends book (asks room ∷ ms) = Lends book ms
 
 -- a device as building leaves it, with nothing sent
 abbrev pub begin : Record → ℕ → Log
-begin r n = record { device = (build_of r n).device; owed = []; sent = [] }
+begin r n = record { device = made r n; owed = []; sent = [] }
 
 -- ---- packets of a bounded length
 
@@ -133,7 +132,7 @@ All P (a ∷ l) = P a × All P l
 
 -- no packet of a moment is longer
 abbrev pub Within : ℕ → Shown → Type 0
-Within size (stepped p room) = All (λ a. length_of a ≤ size) (slots p.actions)
+Within size (stepped p room) = All (λ a. length_of a ≤ size) (told_in p)
 Within size (set why) = Unit {0}
 Within size (handed h room) = Unit {0}
 

@@ -4,8 +4,6 @@ use mathlib.Core.Path.{◌≡◌, refl}
 use mathlib.Core.List.{List}
 use Rattle.std.specs.Prelude.{Option}
 use Rattle.common.proofs.Once.{Once, equal, equals}
-use Rattle.common.proofs.clear.Reads as clear
-use Rattle.control.proofs.word.Reads as word
 use Rattle.control_pipe.specs.declared.Heard.{Heard}
 use Rattle.control_pipe.specs.declared.Moved.{Moved}
 use Rattle.control_pipe.specs.declared.Told.{Told}
@@ -36,12 +34,6 @@ use Rattle.events.proofs.handle.Reads as handle
 -- an answer, what is changed in place, and a lent list
 three : {B C D : Type 0} {x y z : B} {u v w : C} {f g h : D} → x ≡ z → u ≡ w → f ≡ h → y ≡ z → v ≡ w → g ≡ h → ◌≡◌ {A = B × (C × D)} (x, (u, f)) (y, (v, g))
 three p q r s t u = equals (equal p s) (equals q r t u) refl refl
-
-pub clear-once : Once clear.Post (λ κs x s. s.0.now)
-clear-once κs a x y s t = equal
-
-pub word-once : Once word.Post (λ κs x s. x)
-word-once κs a x y s t = equal
 
 -- ---- control_pipe
 
