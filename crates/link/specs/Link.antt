@@ -1,8 +1,7 @@
 -- The C interface: what each call answers and what it leaves in the bytes that it is lent. A refused call changes none.
 use Rattle.std.specs.Prelude.{ℕ, ◌+◌, ◌*◌, Bool, true, cond, List, ◌≡◌, eqb, length}
 use Rattle.common.specs.Bytes.{placed}
-use Rattle.common.specs.Refusals.{number_of}
-use Rattle.device.specs.Device.{fresh, build_refusal, handed_of, handed_room, unfit_device, with_powered}
+use Rattle.device.specs.Device.{fresh, build_refusal, data_refused, handed_room, unfit_device, with_powered}
 use Rattle.record_bytes.specs.Layout.{record_size, record_of, record_coded}
 use Rattle.state.specs.State.{state_size, bytes_of, device_of, state_coded}
 use Rattle.stream.specs.Stream.{Run, run_of}
@@ -57,7 +56,10 @@ pub record Running (r : ℕ) (exit written : List ℕ) (s book events t : List �
 -- ---- the OUT data
 
 unfoldable pub data_number : List ℕ → List ℕ → ℕ
-data_number state room = let x = handed_of (device_of state) (length room) in cond (state_coded state) (answer_of x.count (number_of x.refusal)) (answer_of 0 9)
+data_number state room =
+    let d = device_of state in
+    let n = data_refused d (length room) in
+    cond (state_coded state) (answer_of (cond (eqb n 0) d.live.pipe.coming.awaited 0) n) (answer_of 0 9)
 
 unfoldable pub data_room : List ℕ → List ℕ → List ℕ
 data_room state room = cond (state_coded state) (handed_room (device_of state) room) room

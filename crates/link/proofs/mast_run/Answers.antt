@@ -1,32 +1,23 @@
-use Rattle.link.proofs.Laws.{read-bad, read-good, run-bad, count_fits, run-good}
-use Prim.Native.Nat.{◌^◌, ◌<◌}
-use Rattle.record_bytes.proofs.Numbers.{Small}
-use Rattle.link.specs.Link.{answer_of}
-use lib.ListN.{length}
-use mathlib.Core.Path.{ap, ◌∙◌}
-use borrow.Author.Rules.{rules}
+use Rattle.std.proofs.Common.{◌<◌, ◌^◌, length, rules}
+use Rattle.state.specs.State.{state_coded}
+use Rattle.link.proofs.Laws.{ok-of, err-of, count_fits, run-told, run-untold}
 use Rattle.link.proofs.mast_run.Goals as goal
 
-long : (c : goal.After-slice_known-4-1) → length c.args.trace.now < 2 ^ 64
-long c = search rules
-
-pub returns-then-number-ne0 : goal.returns-then-number-ne0
-returns-then-number-ne0 c =
+pub answer-requires : goal.answer-requires
+answer-requires c =
     let a = c.args in
-    let s = a.state.now in
-    let b = read-bad s c.read-held.ensures c.number.ensures c.if-number-ne0.true in
-    run-bad s a.book.now a.events.now a.trace.now b.0 (c.answer.ensures ∙ ap (answer_of 0) b.1)
+    let k = ok-of (state_coded a.state.now) _ c.in-Ok.ensures.ran in
+    let l : length a.trace.now < 2 ^ 64 = search rules in
+    count_fits a.state.now a.book.now a.events.now a.trace.now k.1 l
 
-pub answer-requires-2 : goal.answer-requires-2
-answer-requires-2 c =
+pub returns-in-Ok : goal.returns-in-Ok
+returns-in-Ok c =
     let a = c.args in
-    count_fits _ a.book.now a.events.now a.trace.now c.run-ran.ensures.value (long c)
+    let k = ok-of (state_coded a.state.now) _ c.in-Ok.ensures.ran in
+    record { value = run-told a.state.now a.book.now a.events.now a.trace.now k.0 k.1 c.answer.ensures; state = c.run.ensures.state; trace = c.run.ensures.trace }
 
-pub returns : goal.returns
-returns c =
+pub returns-in-Err : goal.returns-in-Err
+returns-in-Err c =
     let a = c.args in
-    let s = a.state.now in
-    let g = read-good s c.read-held.ensures c.number.ensures c.if-number-ne0.false in
-    let m : Small s = λ i. (c.slice_known-1.given i).fits in
-    let k = c.keep.ensures in
-    run-good s a.book.now a.events.now a.trace.now g.0 g.1 c.run-ran.ensures k.0 k.1 m c.answer-2.ensures
+    let k = err-of (state_coded a.state.now) _ c.in-Err.ensures.ran in
+    record { value = run-untold a.state.now a.book.now a.events.now a.trace.now k.0 k.1 c.answer-in-Err.ensures; state = c.run.ensures.state; trace = c.run.ensures.trace }
