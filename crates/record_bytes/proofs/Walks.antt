@@ -163,11 +163,6 @@ module _ {A : Type 0} (f : A → List ℕ) (k : ℕ) (xs : List A) (d₀ : List 
         same = p ∙ ap₂ (λ (u : List ℕ) (n : ℕ). placed u n (f y)) w.same q ∙ placed-more d₀ old (f y) at m ∙ ap (λ (t : List ℕ). placed d₀ at t) (sym now);
       }
 
-  pub written-long : (d : List ℕ) (i : ℕ) → Written f k xs d₀ at d i → at + k * i ≤ length d₀ → length d ≡ length d₀
-  written-long d i w l =
-      let m : at + length (joined f (take i xs)) ≤ length d₀ = omega (arith, w.size, l) in
-      ap length w.same ∙ length-placed d₀ (joined f (take i xs)) at m
-
   pub written-end : (d : List ℕ) (i : ℕ) → Written f k xs d₀ at d i → length xs ≤ i → (d ≡ placed d₀ at (joined f xs)) × (length (joined f xs) ≡ k * length xs)
   written-end d i w l =
       let e : take i xs ≡ xs = take_all i xs l in

@@ -25,6 +25,8 @@ const WORD: usize = 2;
 
 const UNIT_BYTES: usize = WORD * UNITS;
 
+const TEXT_BYTES: usize = UNIT_BYTES * NAMES;
+
 /// How many bytes a record takes.
 pub const RECORD: usize = UNIT_PLACE + WORD * TEXT;
 
@@ -297,61 +299,81 @@ fn write_plan(p: &Plan, dst: &mut [u8; RECORD])
     write_all(&p.endpoints.list, dst, ENDPOINT_PLACE);
 }
 
-fn write_ids(languages: &[Language; LANGUAGES], dst: &mut [u8; RECORD])
-    ensures bytes { dst.new ≡ placed dst.old language_place (joined id_bytes languages.now) }
-    ensures size { length (joined id_bytes languages.now) ≡ word_size * language_room }
+// The parts of a language or a string that stand together: the identifiers, the lengths, the units.
+struct Identifiers;
+
+struct StringLengths;
+
+struct StringUnits;
+
+// A value whose part `As` stands in N bytes.
+trait Part<As, const N: usize> {
+    ghost part: { Self → List ℕ };
+
+    fn put(&self, dst: &mut [u8; RECORD], at: usize)
+        requires { at + N ≤ record_size }
+        ensures bytes { dst.new ≡ placed dst.old at (part self.now) }
+        ensures size { length (part self.now) ≡ N };
+}
+
+// These parts of a list, one behind the other, from a place on.
+fn put_all<As, T: Part<As, N>, const N: usize>(list: &[T], dst: &mut [u8; RECORD], at: usize)
+    requires { at + N * length list.now ≤ record_size }
+    ensures bytes { dst.new ≡ placed dst.old at (joined T.Part.part list.now) }
+    ensures size { length (joined T.Part.part list.now) ≡ N * length list.now }
 {
-    for (i, language) in languages.iter().enumerate() {
-        let at = LANGUAGE_PLACE + WORD * i;
-        dst[at..at + WORD].copy_from_slice(&language.id.write());
+    for (i, x) in list.iter().enumerate() {
+        x.put(dst, at + N * i);
     }
 }
 
-// The lengths of a language's strings.
-fn write_lengths(texts: &[Text; NAMES], dst: &mut [u8; RECORD], at: usize)
-    requires { at + names ≤ record_size }
-    ensures bytes { dst.new ≡ placed dst.old at (joined length_bytes texts.now) }
-    ensures size { length (joined length_bytes texts.now) ≡ names }
-{
-    for (k, text) in texts.iter().enumerate() {
-        dst[at + k] = text.len;
+impl Part<Identifiers, WORD> for Language {
+    ghost use Rattle.record_bytes.specs.Layout.{id_bytes};
+
+    ghost part = { id_bytes };
+
+    fn put(&self, dst: &mut [u8; RECORD], at: usize) {
+        dst[at..at + WORD].copy_from_slice(&self.id.write());
     }
 }
 
-fn write_all_lengths(languages: &[Language; LANGUAGES], dst: &mut [u8; RECORD])
-    ensures bytes { dst.new ≡ placed dst.old length_place (joined lengths_bytes languages.now) }
-    ensures size { length (joined lengths_bytes languages.now) ≡ string_room }
-{
-    for (i, language) in languages.iter().enumerate() {
-        write_lengths(&language.names, dst, LENGTH_PLACE + NAMES * i);
+impl Part<StringLengths, 1> for Text {
+    ghost use Rattle.record_bytes.specs.Layout.{length_bytes};
+
+    ghost part = { length_bytes };
+
+    fn put(&self, dst: &mut [u8; RECORD], at: usize) {
+        dst[at] = self.len;
     }
 }
 
-fn write_units(units: &[u16; UNITS], dst: &mut [u8; RECORD], at: usize)
-    requires { at + text_size ≤ record_size }
-    ensures bytes { dst.new ≡ placed dst.old at (joined word_bytes units.now) }
-    ensures size { length (joined word_bytes units.now) ≡ text_size }
-{
-    write_all(units, dst, at);
-}
+impl Part<StringLengths, NAMES> for Language {
+    ghost use Rattle.record_bytes.specs.Layout.{lengths_bytes};
 
-// The units of a language's strings.
-fn write_texts(texts: &[Text; NAMES], dst: &mut [u8; RECORD], at: usize)
-    requires { at + names * text_size ≤ record_size }
-    ensures bytes { dst.new ≡ placed dst.old at (joined text_bytes texts.now) }
-    ensures size { length (joined text_bytes texts.now) ≡ names * text_size }
-{
-    for (k, text) in texts.iter().enumerate() {
-        write_units(&text.units, dst, at + UNIT_BYTES * k);
+    ghost part = { lengths_bytes };
+
+    fn put(&self, dst: &mut [u8; RECORD], at: usize) {
+        put_all::<StringLengths, Text, 1>(&self.names, dst, at);
     }
 }
 
-fn write_all_texts(languages: &[Language; LANGUAGES], dst: &mut [u8; RECORD])
-    ensures bytes { dst.new ≡ placed dst.old unit_place (joined texts_bytes languages.now) }
-    ensures size { length (joined texts_bytes languages.now) ≡ word_size * text_room }
-{
-    for (i, language) in languages.iter().enumerate() {
-        write_texts(&language.names, dst, UNIT_PLACE + UNIT_BYTES * NAMES * i);
+impl Part<StringUnits, UNIT_BYTES> for Text {
+    ghost use Rattle.record_bytes.specs.Layout.{text_bytes};
+
+    ghost part = { text_bytes };
+
+    fn put(&self, dst: &mut [u8; RECORD], at: usize) {
+        write_all(&self.units, dst, at);
+    }
+}
+
+impl Part<StringUnits, TEXT_BYTES> for Language {
+    ghost use Rattle.record_bytes.specs.Layout.{texts_bytes};
+
+    ghost part = { texts_bytes };
+
+    fn put(&self, dst: &mut [u8; RECORD], at: usize) {
+        put_all::<StringUnits, Text, UNIT_BYTES>(&self.names, dst, at);
     }
 }
 
@@ -361,8 +383,8 @@ pub fn write(profile: &Record) -> [u8; RECORD]
 {
     let mut d = [0; RECORD];
     write_plan(&profile.plan, &mut d);
-    write_ids(&profile.languages, &mut d);
-    write_all_lengths(&profile.languages, &mut d);
-    write_all_texts(&profile.languages, &mut d);
+    put_all::<Identifiers, Language, WORD>(&profile.languages, &mut d, LANGUAGE_PLACE);
+    put_all::<StringLengths, Language, NAMES>(&profile.languages, &mut d, LENGTH_PLACE);
+    put_all::<StringUnits, Language, TEXT_BYTES>(&profile.languages, &mut d, UNIT_PLACE);
     d
 }
