@@ -70,6 +70,8 @@ pub struct Endpoint {
     pub interface: u8,
 }
 
+// A count stands beside each list, since any count is a record: `limits::check` names one beyond the list (refusal 2).
+
 /// The first `count` of the list are the interfaces.
 #[derive(Clone, Copy, Debug, PartialEq, Eq)]
 pub struct Interfaces {

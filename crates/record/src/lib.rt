@@ -24,6 +24,8 @@ pub const STRINGS: usize = LANGUAGES * NAMES;
 /// The units of all strings.
 pub const TEXT: usize = STRINGS * UNITS;
 
+// A length stands beside the units, since any length is a record: `limits::check` names one that is too long (refusal 3).
+
 /// A string, or none.
 #[derive(Clone, Copy, Debug, PartialEq, Eq)]
 pub struct Text {
