@@ -3,7 +3,7 @@
 
 ghost use Rattle.std.specs.Prelude.{◌≡◌, ◌≤◌, [], ◌∷◌, length};
 ghost use Rattle.control_pipe.specs.Sizes.{buffer_room};
-ghost use Rattle.answers.specs.Answers.{Answered, tell, filled_as, described, answer_of};
+ghost use Rattle.answers.specs.Answers.{Answered, tell, filled_as, described, answered};
 
 use control::Request;
 use control_pipe::BUFFER;
@@ -58,14 +58,14 @@ fn describe(profile: &Record, request: &Request, buffer: &mut [u8; BUFFER]) -> O
 /// What the pipe is to do of a decision; `None`: both directions stall. The bytes that it sends are then at the front of the buffer.
 #[tactic(auto, unfolding(crate::specs::Answers::answer_of))]
 pub fn write(
-    decision: Decision,
+    decision: Option<Decision>,
     profile: &Record,
     request: &Request,
     buffer: &mut [u8; BUFFER],
 ) -> Option<Verdict>
-    ensures { Answered result buffer.new (answer_of profile.now request.now decision) buffer.old }
+    ensures { Answered result buffer.new (answered profile.now request.now decision) buffer.old }
 {
-    match decision {
+    match decision? {
         Decision::Status(n) => tell(&[n, 0], buffer),
         Decision::Byte(n) => tell(&[n], buffer),
         Decision::Describe => describe(profile, request, buffer),

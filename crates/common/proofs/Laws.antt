@@ -24,16 +24,6 @@ pub cond_same : {A : Type 0} (b : Bool) (x : A) → cond b x x ≡ x
 cond_same true x = refl
 cond_same false x = refl
 
--- two tests that say the same
-pub leb-iff : (a b c d : ℕ) → (a ≤ b → c ≤ d) → (c ≤ d → a ≤ b) → leb a b ≡ leb c d
-leb-iff a b c d f g = at (leb a b) refl (leb c d) refl
-  where
-    at : (x : Bool) → leb a b ≡ x → (y : Bool) → leb c d ≡ y → leb a b ≡ leb c d
-    at true e true k = e ∙ sym k
-    at false e false k = e ∙ sym k
-    at true e false k = absurd (let l : c ≤ d = f (leb-true a b e) in omega (arith, leb-false c d k))
-    at false e true k = absurd (let l : a ≤ b = g (leb-true c d k) in omega (arith, leb-false a b e))
-
 -- both parts of a test that holds
 pub and_left : (a b : Bool) → a && b ≡ true → a ≡ true
 and_left true b e = refl

@@ -3,7 +3,7 @@ use lib.Dec.{eqb}
 use Prim.Native.Nat.{ℕ}
 use native.Mathlib.Omega.{arith}
 use mathlib.Core.Bool.{Bool, true, false, cond}
-use mathlib.Core.Path.{◌≡◌, refl, ap, ◌∙◌}
+use mathlib.Core.Path.{◌≡◌, refl}
 use Rattle.std.specs.Prelude.{Ok, Err}
 use Rattle.common.specs.declared.Refusal.{Refusal}
 use Rattle.common.specs.declared.Refusal.TheVariants.{PacketSize, Layout, Languages, BookLength, OtherBook, PacketRoom, NoData, DataRoom, BadState, BadEvent, BadSetup, AnswerRoom}
@@ -26,10 +26,6 @@ named AnswerRoom = refl
 -- a number that is one of the table's
 abbrev pub Named : ℕ → Type 0
 Named n = number_of (refusal n) ≡ n
-
--- what a caller learns that asks for the number of a refusal
-pub told : {n k : ℕ} {why : Refusal} → Named n → why ≡ refusal n → k ≡ number_of why → k ≡ n
-told m e k = k ∙ (ap number_of e ∙ m)
 
 -- what a caller learns of a test that lets it through, and of one that does not
 pub passed : {A : Type 0} (n : ℕ) (x y : A) → Ok y ≡ unless n x → eqb n 0 ≡ true

@@ -160,37 +160,60 @@ fn recipient_of(b: u8) -> Recipient
 }
 
 impl Request {
+    /// USB 2.0 section 9.4.5.
     pub const GET_STATUS: u8 = 0;
 
+    /// USB 2.0 section 9.4.1.
     pub const CLEAR_FEATURE: u8 = 1;
 
+    /// USB 2.0 section 9.4.9.
     pub const SET_FEATURE: u8 = 3;
 
+    /// USB 2.0 section 9.4.6.
     pub const SET_ADDRESS: u8 = 5;
 
+    /// USB 2.0 section 9.4.3.
     pub const GET_DESCRIPTOR: u8 = 6;
 
+    /// USB 2.0 section 9.4.8.
     pub const SET_DESCRIPTOR: u8 = 7;
 
+    /// USB 2.0 section 9.4.2.
     pub const GET_CONFIGURATION: u8 = 8;
 
+    /// USB 2.0 section 9.4.7.
     pub const SET_CONFIGURATION: u8 = 9;
 
+    /// USB 2.0 section 9.4.4.
     pub const GET_INTERFACE: u8 = 10;
 
+    /// USB 2.0 section 9.4.10.
     pub const SET_INTERFACE: u8 = 11;
 
+    /// USB 2.0 section 9.4.11.
     pub const SYNCH_FRAME: u8 = 12;
 
+    /// The feature of an endpoint (USB 2.0, table 9-6).
     pub const FEATURE_ENDPOINT_HALT: u16 = 0;
 
+    /// The feature of the device (USB 2.0, table 9-6).
     pub const FEATURE_DEVICE_REMOTE_WAKEUP: u16 = 1;
 
     /// The request that a SETUP packet carries: exactly eight bytes, else refusal 11.
     pub fn parse(packet: &[u8]) -> Result<Request, Refusal>
         ensures { result ≡ parsed packet.now }
     {
-        let &[kind, request, v0, v1, i0, i1, l0, l1] = packet else {
+        let &[
+            kind,
+            request,
+            value,
+            value_high,
+            index,
+            index_high,
+            length,
+            length_high,
+        ] = packet
+        else {
             return Err(Refusal::BadSetup);
         };
         Ok(Request {
@@ -198,9 +221,9 @@ impl Request {
             kind: type_of(kind),
             recipient: recipient_of(kind),
             request,
-            value: word(v0, v1),
-            index: word(i0, i1),
-            length: word(l0, l1),
+            value: word(value, value_high),
+            index: word(index, index_high),
+            length: word(length, length_high),
         })
     }
 

@@ -71,7 +71,7 @@ fn arrive(pipe: &mut Pipe, arrival: &Arrival, packet: &[u8], buffer: &mut [u8; B
 fn judge(profile: &Record, live: &Live, buffer: &mut [u8; BUFFER]) -> Option<Verdict>
     ensures { Answered result buffer.new (answer profile.now live.now.kept live.now.pipe live.now.book) buffer.old }
 {
-    let decision = requests::decide(&live.kept, &live.pipe, live.book)?;
+    let decision = requests::decide(&live.kept, &live.pipe, live.book);
     answers::write(decision, profile, &live.pipe.request, buffer)
 }
 
