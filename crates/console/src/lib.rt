@@ -13,6 +13,7 @@ pub fn read_full<R: Read>(input: &mut R, buf: &mut [u8]) -> io::Result<usize>
     ensures len { length buf.new ≡ length buf.old }
 {
     let mut done = 0;
+    // std's `read_exact` says little of an input that ends early, and how many bytes there were is wanted
     while done < buf.len() {
         let n = input.read(&mut buf[done..])?;
         if n == 0 {
@@ -34,12 +35,12 @@ pub fn used(bytes: &[u8]) -> usize
     }
 }
 
-/// Prints a byte as two digits of hex, in lower case.
+/// Prints a byte as two digits of hex, in lower case. (No contract can say what is printed.)
 pub fn byte<R: Print>(rt: &R, b: u8) -> io::Result<()> {
     print!(rt; "{b:02x}")
 }
 
-/// Prints bytes in hex, one after the other.
+/// Prints bytes in hex, one after the other. (No contract can say what is printed.)
 pub fn hex<R: Print>(rt: &R, bytes: &[u8]) -> io::Result<()> {
     for &b in bytes {
         byte(rt, b)?;

@@ -65,6 +65,7 @@ pub enum Read {
 }
 
 /// What the bus is told of endpoint 0. `Write` and `Refused` count the bytes of the packet at the front of the room.
+// `Nothing` is a case, since an `Option` would add a tag to this word at every copy.
 #[derive(Clone, Copy, Debug, PartialEq, Eq)]
 pub enum Told {
     Nothing,
@@ -128,6 +129,7 @@ pub struct Pipe {
     pub stage: Stage,
     pub stallout: bool,
     pub stallin: bool,
+    // 0 and no `Option`: a state with any byte here is read back, and refusal 9 names those above 127
     pub pending: BusAddress,
     pub request: Request,
     pub coming: Coming,

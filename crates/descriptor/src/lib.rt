@@ -1,6 +1,7 @@
 //! Writing a descriptor into a lent buffer at a position, and the device descriptor.
 //! A record that breaks a limit is refused with 1, 2 or 3, and an answer that the room left does not take whole with 12:
 //! then no byte is written.
+//! What writes works on a slice and a position; the writer of crate `writer` is thin over it.
 #![tactic(auto)]
 
 ghost use Rattle.std.specs.Prelude.{◌≡◌, take, length, Some};

@@ -14,7 +14,7 @@ use events::{Event, Handled};
 use live::Live;
 use record::Record;
 
-/// Everything that a device is. Any value is one; a call on a state that no step leaves is refused with 9.
+/// Everything that a device is. Any value is one: a call on a device that may not be used ([`Live::check`]) is refused with 9.
 #[derive(Clone, Copy, Debug, PartialEq, Eq)]
 pub struct Device {
     pub profile: Record,
@@ -136,7 +136,7 @@ impl Device {
     ///
     /// # Errors
     ///
-    /// 9 where the device's state is none that a step leaves, 5 where the book is not as long as at building, 6 where the room is
+    /// 9 where the device may not be used ([`Live::check`]), 5 where the book is not as long as at building, 6 where the room is
     /// shorter than a packet. Nothing is changed then.
     #[tactic(auto, using(crate::proofs::Laws::tests), unfolding(crate::specs::Device::step_of, crate::specs::Device::room_of))]
     pub fn step(self, book: &[u8], event: Event, packet: &[u8], room: &mut [u8]) -> Stepped
@@ -168,7 +168,7 @@ impl Device {
     ///
     /// # Errors
     ///
-    /// 9 where the device's state is none that a step leaves, 7 where no OUT data is complete, 8 where the room is shorter than it.
+    /// 9 where the device may not be used ([`Live::check`]), 7 where no OUT data is complete, 8 where the room is shorter than it.
     /// Nothing is written then.
     #[tactic(auto, using(crate::proofs::Laws::tests), unfolding(crate::specs::Device::data_refusal, crate::specs::Device::handed_room))]
     pub fn data(&self, room: &mut [u8]) -> Result<usize, Refusal>
@@ -191,7 +191,7 @@ impl Device {
     ///
     /// # Errors
     ///
-    /// 9 where the device's state is none that a step leaves. Nothing is changed then.
+    /// 9 where the device may not be used ([`Live::check`]). Nothing is changed then.
     #[tactic(auto, using(crate::proofs::Laws::tests), unfolding(crate::specs::Device::powered_of))]
     pub fn set_self_powered(&mut self, on: bool) -> Result<(), Refusal>
         ensures { Setting result self.new self.old on }

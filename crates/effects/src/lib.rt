@@ -11,6 +11,7 @@ use live::Live;
 use requests::{Effect, State};
 
 /// What the bus is told.
+// `Nothing` is a case: the free slots of a step hold it.
 #[derive(Clone, Copy, Debug, PartialEq, Eq)]
 pub enum Action {
     Nothing,

@@ -107,6 +107,7 @@ fn follow(
     }
 }
 
+// The parts of a device are lent one by one: a device stands in a crate above.
 #[tactic(auto, unfolding(crate::specs::Events::data_come))]
 fn data_come(
     profile: &Record,

@@ -120,6 +120,7 @@ fn none_twice<T: Keyed>(list: &[T]) -> bool
     ensures { result ≡ none_twice (map T.Keyed.key list.now) }
 {
     let mut rest = list;
+    // each is compared with those behind it, which no `for` over the list gives
     while let [first, others @ ..] = rest {
         let key = first.key();
         if others.iter().any(|x| key == x.key()) {

@@ -18,6 +18,7 @@ pub const INTERFACES: usize = 4;
 pub const ENDPOINTS: usize = 8;
 
 /// A count or a length that no good record has.
+// A number and no error: filling a record never fails, and what a state holds is read back as it was.
 pub const SPOILT: u8 = 255;
 
 /// What a plan says apart from its lists.
@@ -73,6 +74,7 @@ pub struct Endpoint {
 // A count stands beside each list, since any count is a record: `limits::check` names one beyond the list (refusal 2).
 
 /// The first `count` of the list are the interfaces.
+// A count beside a list: what lies behind the count is part of the record, whose bytes are written back equal.
 #[derive(Clone, Copy, Debug, PartialEq, Eq)]
 pub struct Interfaces {
     pub count: u8,
@@ -80,6 +82,7 @@ pub struct Interfaces {
 }
 
 /// The first `count` of the list are the endpoints.
+// A count beside a list, as for the interfaces.
 #[derive(Clone, Copy, Debug, PartialEq, Eq)]
 pub struct Endpoints {
     pub count: u8,

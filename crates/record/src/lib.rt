@@ -27,6 +27,7 @@ pub const TEXT: usize = STRINGS * UNITS;
 // A length stands beside the units, since any length is a record: `limits::check` names one that is too long (refusal 3).
 
 /// A string, or none.
+// A length beside the units and no `Option`: what lies behind it is part of the record, whose bytes are written back equal.
 #[derive(Clone, Copy, Debug, PartialEq, Eq)]
 pub struct Text {
     /// 0 for no string, else its units and one.

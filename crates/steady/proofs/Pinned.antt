@@ -30,6 +30,12 @@ use Rattle.effects.proofs.set_out.Reads as set
 use Rattle.effects.proofs.tick.Reads as tick
 use Rattle.events.specs.declared.Handled.{Handled}
 use Rattle.events.proofs.handle.Reads as handle
+use Rattle.control_pipe.proofs.StageCoded.code.Reads as stage-code
+use Rattle.control_pipe.proofs.StageCoded.of_code.Reads as stage-of-code
+use Rattle.control_pipe.proofs.SourceCoded.code.Reads as source-code
+use Rattle.control_pipe.proofs.SourceCoded.of_code.Reads as source-of-code
+use Rattle.requests.proofs.StateCoded.code.Reads as state-code
+use Rattle.requests.proofs.StateCoded.of_code.Reads as state-of-code
 
 -- an answer, what is changed in place, and a lent list
 three : {B C D : Type 0} {x y z : B} {u v w : C} {f g h : D} → x ≡ z → u ≡ w → f ≡ h → y ≡ z → v ≡ w → g ≡ h → ◌≡◌ {A = B × (C × D)} (x, (u, f)) (y, (v, g))
@@ -100,3 +106,23 @@ tick-once κs a x y s t p q = three p.value p.live p.room q.value q.live q.room
 
 pub handle-once : Once {B = Handled × (Live × (List ℕ × List ℕ))} handle.Post (λ κs x s. (x, (s.1.1.0.now, (s.1.1.1.1.0.now, s.1.1.1.1.1.1.0.now))))
 handle-once κs a x y s t p q = three p.value p.live (equals p.buffer p.room refl refl) q.value q.live (equals q.buffer q.room refl refl)
+
+-- ---- the codes of enums
+
+pub stage-code-once : Once stage-code.Post (λ κs x s. x)
+stage-code-once κs a x y s t = equal
+
+pub stage-of-code-once : Once stage-of-code.Post (λ κs x s. x)
+stage-of-code-once κs a x y s t = equal
+
+pub source-code-once : Once source-code.Post (λ κs x s. x)
+source-code-once κs a x y s t = equal
+
+pub source-of-code-once : Once source-of-code.Post (λ κs x s. x)
+source-of-code-once κs a x y s t = equal
+
+pub state-code-once : Once state-code.Post (λ κs x s. x)
+state-code-once κs a x y s t = equal
+
+pub state-of-code-once : Once state-of-code.Post (λ κs x s. x)
+state-of-code-once κs a x y s t = equal

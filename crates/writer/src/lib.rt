@@ -57,7 +57,8 @@ impl<'a> Writer<'a> {
     }
 }
 
-// A descriptor at a position of a slice: type 1 is the device's, 2 the configuration, 3 a string.
+// A descriptor at a position of a slice: type 1 is the device's, 2 the configuration, 3 a string. The type is a number as the
+// request has it (table 9-5): most of them name no descriptor here.
 fn put(profile: &Record, which: Which, buf: &mut [u8], at: usize) -> Written
     ensures { Wrote result buf.new (lowest profile.now) (asked profile.now which) buf.old at }
 {
