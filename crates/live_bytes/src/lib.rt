@@ -103,13 +103,20 @@ pub fn read(s: &[u8; LIVE]) -> Live
 fn pipe_fine(s: &[u8; LIVE]) -> bool
     ensures { result ≡ pipe_coded s.now }
 {
-    s[0] <= 9 && s[1] <= 1 && s[2] <= 1 && s[8] <= 1 && s[9] <= 3 && s[10] <= 4 && s[18] <= 1
+    s[0] <= Stage::Error.code()
+        && s[1] <= 1
+        && s[2] <= 1
+        && s[8] <= Direction::In.code()
+        && s[9] <= RequestType::Reserved.code()
+        && s[10] <= Recipient::Reserved.code()
+        && s[18] <= Source::Book.code()
 }
 
 fn rest_fine(s: &[u8; LIVE]) -> bool
     ensures { result ≡ rest_coded s.now }
 {
-    s[31] <= 3 && s[32] <= 1 && s[33] <= 1 && s[38] <= 3 && s[39] <= 1
+    let last = State::Suspend.code();
+    s[31] <= last && s[32] <= 1 && s[33] <= 1 && s[38] <= last && s[39] <= 1
 }
 
 /// Whether the bytes are what a live part is written as: each flag and each enum is a code.
