@@ -6,21 +6,23 @@
 use common::Refusal;
 use device::Device;
 use record_bytes::RECORD;
+use records::EVENT;
+use requests::TILE;
 use std::io;
 use stream::{ENTRY, TOP};
 
 /// How many streams there are.
 const STREAMS: usize = 12;
 
-/// The bytes of a tile, and of the most tiles of a stream.
-const TILE: usize = 16;
+/// The room of a stream's tiles, 70 of them.
+const TILES: usize = 70 * TILE as usize;
 
-const TILES: usize = 1120;
+/// The event records of a stream, their bytes, and the room of their trace entries.
+const RECORDS: usize = 250;
 
-/// The bytes of the event records of a stream, and of their trace entries.
-const EVENTS: usize = 20000;
+const EVENTS: usize = RECORDS * EVENT;
 
-const TRACE: usize = 20500;
+const TRACE: usize = RECORDS * ENTRY;
 
 /// Where the actions stand in a trace entry.
 const ACTIONS: usize = 8;
@@ -83,7 +85,7 @@ fn next<R: Input + Print>(rt: &R) -> io::Result<()> {
     console::read_full(&mut input, &mut tiles)?;
     console::read_full(&mut input, &mut events)?;
     let [powered, count] = head;
-    if let Some(book) = tiles.get(..TILE * count as usize) {
+    if let Some(book) = tiles.get(..TILE as usize * count as usize) {
         replay(rt, &record, powered == 1, book, &events)?;
     }
     Ok(())

@@ -5,16 +5,21 @@
 #![tactic(auto)]
 
 use device::Device;
+use lines::{BAD, LINE};
 use records::EVENT;
 use std::fmt;
 use std::io::{self, Read, Write};
+use stream::ENTRY;
 
-/// The bytes of a read, and the rooms of the trace entries and the lines of the 819 event records in them.
+/// The bytes of a read.
 const READ: usize = 65536;
 
-const TRACE: usize = 67158;
+/// The event records in them, and the rooms of their trace entries and their lines.
+const RECORDS: usize = READ / EVENT;
 
-const OUT: usize = 551213;
+const TRACE: usize = RECORDS * ENTRY;
+
+const OUT: usize = RECORDS * LINE + BAD;
 
 /// What stops a replay before its input does.
 #[derive(Clone, Copy, Debug, PartialEq, Eq)]
@@ -106,7 +111,7 @@ impl Replay<'_> {
     }
 }
 
-/// The room of the lines: a function pays for the size of its locals, so `main` takes it from here.
+/// The room of the lines. `main` takes it from here: with so long an array among its own locals the check ends without a verdict.
 fn lines_room() -> [u8; OUT] {
     [0; OUT]
 }

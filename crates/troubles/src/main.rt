@@ -5,16 +5,20 @@
 #![tactic(auto)]
 
 use device::Device;
+use lines::{BAD, LINE};
 use records::EVENT;
 use std::io::{self, Write};
+use stream::ENTRY;
 
 /// The bytes of standard input that are replayed.
 const ROOM: usize = 65536;
 
-/// The rooms of three trace entries and three lines.
-const TRACE: usize = 246;
+/// The event records of a call, and the rooms of their trace entries and their lines.
+const RECORDS: usize = 3;
 
-const OUT: usize = 2045;
+const TRACE: usize = RECORDS * ENTRY;
+
+const OUT: usize = RECORDS * LINE + BAD;
 
 /// A stream of event records, with the number of the first.
 #[derive(Clone, Copy)]
