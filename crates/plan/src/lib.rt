@@ -72,7 +72,6 @@ pub struct Endpoint {
 }
 
 // A count stands beside each list, since any count is a record: `limits::check` names one beyond the list (refusal 2).
-// The lists are two structs: one that is generic in its array makes each caller owe the size of an element, which is no plainer.
 
 /// The first `count` of the list are the interfaces.
 // A count beside a list: what lies behind the count is part of the record, whose bytes are written back equal.
