@@ -12,7 +12,7 @@ ghost use Rattle.link.specs.Link.{Building, Running, Handing, Setting, answer_of
 use common::Refusal;
 use device::Device;
 use record_bytes::RECORD;
-use state::STATE;
+use state::{Parts, STATE};
 use stream::Ran;
 
 // The number of what stops a call, or 0.
@@ -80,7 +80,9 @@ fn run(state: &mut [u8], book: &[u8], events: &[u8], trace: &mut [u8]) -> Result
     ensures state { state.new ≡ ran_state state.old book.now events.now trace.old }
     ensures trace { trace.new ≡ ran_trace state.old book.now events.now trace.old }
 {
-    let mut device = state::read(state)?;
+    // made here from its parts: a device that comes in a Result (`state::read`) is copied twice more, at each call of a firmware
+    let parts = Parts::of(state).ok_or(Refusal::BadState)?;
+    let mut device = parts.device();
     let ran = stream::run(&mut device, book, events, trace);
     state::keep(&device.live, &device.buffer, state);
     Ok(ran)

@@ -34,6 +34,10 @@ pub record Parted (r l b s : List ℕ) : Type 0 where
   pub live : l ≡ part record_size live_size s
   pub buffer : b ≡ part buffer_place buffer_room s
 
+-- the device of such parts
+abbrev pub parts_device : List ℕ → List ℕ → List ℕ → Device
+parts_device r l b = record { profile = record_of r; live = live_of l; buffer = b }
+
 -- bytes that no device is written as are refusal 9
 abbrev pub read_of : List ℕ → Result Device Refusal
 read_of s = cond (state_coded s) (Ok (device_of s)) (Err (refusal 9))

@@ -3,7 +3,7 @@
 
 ghost use Rattle.std.specs.Prelude.{◌≡◌, length, MatchOption, false};
 ghost use Rattle.control_pipe.specs.Sizes.{buffer_room};
-ghost use Rattle.state.specs.State.{Parted, Writing, state_coded, read_of, kept};
+ghost use Rattle.state.specs.State.{Parted, parts_device, Writing, state_coded, read_of, kept};
 
 use common::Refusal;
 use control_pipe::BUFFER;
@@ -18,17 +18,17 @@ const BUFFER_PLACE: usize = RECORD + LIVE;
 /// The bytes of a state.
 pub const STATE: usize = BUFFER_PLACE + BUFFER;
 
-// The bytes of a state's parts, where they stand.
+/// The bytes of a state's parts, where they stand: a caller that goes on with the device makes it from them in its own place.
 #[derive(Clone, Copy)]
-struct Parts<'a> {
-    record: &'a [u8; RECORD],
-    live: &'a [u8; LIVE],
-    buffer: &'a [u8; BUFFER],
+pub struct Parts<'a> {
+    pub record: &'a [u8; RECORD],
+    pub live: &'a [u8; LIVE],
+    pub buffer: &'a [u8; BUFFER],
 }
 
 impl<'a> Parts<'a> {
-    // Of bytes that some device is written as.
-    fn of(s: &'a [u8]) -> Option<Parts<'a>>
+    /// Of bytes that some device is written as.
+    pub fn of(s: &'a [u8]) -> Option<Parts<'a>>
         ensures { MatchOption result (state_coded s.now ≡ false) (λ p. Parted p.record.now p.live.now p.buffer.now s.now) }
     {
         let (rest, buffer) = s.split_last_chunk::<BUFFER>()?;
@@ -45,6 +45,18 @@ impl<'a> Parts<'a> {
             buffer,
         })
     }
+
+    /// The device of these bytes.
+    #[inline(always)]
+    pub fn device(&self) -> Device
+        ensures { result ≡ parts_device self.now.record.now self.now.live.now self.now.buffer.now }
+    {
+        Device {
+            profile: record_bytes::read(self.record),
+            live: live_bytes::read(self.live),
+            buffer: *self.buffer,
+        }
+    }
 }
 
 /// The device of a state.
@@ -56,11 +68,7 @@ pub fn read(s: &[u8]) -> Result<Device, Refusal>
     ensures { result ≡ read_of s.now }
 {
     let parts = Parts::of(s).ok_or(Refusal::BadState)?;
-    Ok(Device {
-        profile: record_bytes::read(parts.record),
-        live: live_bytes::read(parts.live),
-        buffer: *parts.buffer,
-    })
+    Ok(parts.device())
 }
 
 /// Puts the live part and the buffer of a device into the state that holds its record. A room that has not `STATE` bytes is left
