@@ -1,20 +1,18 @@
 -- Laws of lines that the proofs cite. Assumes nothing.
-use Rattle.std.proofs.Common.{◌≡◌, ℕ, zero, suc, ◌+◌, ◌-◌, ◌*◌, ◌/◌, ◌%◌, ◌^◌, ◌<◌, ◌≤◌, min, Bool, true, false, cond, eqb, ltb, leb, List, [], ◌∷◌, ◌++◌, length, get_or, take, drop, set, sym, refl, ap, ◌∙◌, ap₂, append_assoc, append-nil, zero-le, add-zero, add-one, arith, length-append, length-drop, length-take, length-take-le, take_all, drop-drop, drop-cons, le-ltb, lt-ltb, leb-false, leb-true}
+use Rattle.std.proofs.Common.{◌≡◌, ℕ, zero, suc, ◌+◌, ◌-◌, ◌*◌, ◌/◌, ◌%◌, ◌^◌, ◌<◌, ◌≤◌, min, Bool, true, false, cond, eqb, ltb, leb, List, [], ◌∷◌, ◌++◌, length, get_or, take, drop, set, sym, refl, ap, ◌∙◌, ap₂, append_assoc, append-nil, add-zero, add-one, arith, length-append, length-drop, length-take, length-take-le, take_all, drop-drop, drop-cons, le-ltb, lt-ltb, leb-false, leb-true}
 use native.Mathlib.Nat.{sub-zero}
-use types.Run.{OneOf}
-use lib.ListN.{get_or-eq_default, drop_of_length-le}
+use lib.ListN.{drop_of_length-le}
 use lib.Seq.{set_split}
 use Rattle.common.specs.Bytes.{placed}
 use Rattle.common.proofs.Laws.{placed-nil, placed-more, length-placed, cond-elim, at_most}
 use Rattle.common.proofs.Pending.{Pending, pending-start, pending-as, pending-turn, pending-end}
 use Rattle.requests.specs.declared.State.{State}
-use Rattle.requests.specs.declared.State.TheVariants.{Default, Addressed, Configured, Suspend as Suspended}
 use Rattle.effects.specs.declared.Action.{Action}
 use Rattle.effects.specs.declared.Action.TheVariants.{Nothing, Resume, Suspend, Reset, UnstallOut, UnstallIn, StallOut, StallIn, Halt, Unhalt, Address, Write, Refused}
 use Rattle.actions.specs.declared.Actions.{Actions}
 use Rattle.stream.specs.Trace.{entry_room, top_room}
-use Rattle.lines.specs.Lines.{digit, hex_of, hexes, decimal_in, decimal, letter_of, word_of, words_of, line_of, bad_line}
-use Rattle.lines.specs.Entries.{Wrote, state_at, action_at, action_in, actions_in, entry_line, stop_line, lines_of, after, line_room, bad_room, room_for}
+use Rattle.lines.specs.Lines.{digit, hex_of, hexes, decimal_in, decimal, word_of, words_of, line_of, bad_line}
+use Rattle.lines.specs.Entries.{Wrote, state_at, action_in, actions_in, entry_line, stop_line, lines_of, after, line_room, bad_room, room_for}
 
 -- ---- bytes one after the other
 
@@ -148,32 +146,6 @@ wrote-room {r} {at} {d} {d₀} {s} k m w l h =
     let o : at + length s ≤ length d₀ = omega arith in
     let e = wrote-long w o in
     omega (arith, w.value, e)
-
--- ---- codes that stand for nothing
-
-pub letter-rest : (c : ℕ) → 3 ≤ c → 83 ≡ letter_of (state_at c)
-letter-rest c l = ap letter_of (sym (get_or-eq_default (Default ∷ Addressed ∷ Configured ∷ []) Suspended l))
-
-pub action-rest : (c x : ℕ) (p : List ℕ) → 13 ≤ c → [] ≡ word_of (action_at c x) p
-unfolding action_at word_of
-action-rest c x p l =
-    ap (λ (a : Action). word_of a p)
-    (sym (get_or-eq_default (Nothing ∷ Resume ∷ Suspend ∷ Reset ∷ UnstallOut ∷ UnstallIn ∷ StallOut ∷ StallIn ∷ Halt (record { 0 = x }) ∷ Unhalt (record { 0 = x }) ∷ Address (record { 0 = x }) ∷ Write x ∷ Refused x ∷ []) Nothing l))
-
-pub word-none : (c x : ℕ) (p : List ℕ) → (1 ≤ c → 13 ≤ c) → [] ≡ word_of (action_at c x) p
-unfolding action_at word_of
-word-none zero x p l = refl
-word-none (suc c) x p l = action-rest (suc c) x p (l (omega arith))
-
--- what is none of 0 to k - 1, as a `match` leaves it
-unfoldable pub Past : ℕ → ℕ → Type 0
-Past zero c = Unit {0}
-Past (suc k) c = Past k c × (OneOf (k ∷ []) c → ⊥)
-
-pub past : (k c : ℕ) → Past k c → k ≤ c
-unfolding Past
-past zero c p = zero-le
-past (suc k) c p = let l = past k c p.0 in let n : c ≡ k → ⊥ = p.1 in omega (arith, l)
 
 -- ---- parts
 

@@ -1,10 +1,10 @@
 -- Document 01, module 5 (replay): the lines of a run through event records, and the line of one trace entry.
-use Rattle.std.specs.Prelude.{◌≡◌, ℕ, zero, suc, ◌+◌, ◌-◌, ◌*◌, ◌/◌, ◌%◌, ◌^◌, cond, ◌&&◌, List, [], ◌∷◌, ◌++◌, length, get_or, take, drop, ◌==◌, nat_le, slice_index, slice_index_or, Result, Ok, Err}
+use Rattle.std.specs.Prelude.{◌≡◌, ℕ, zero, suc, ◌+◌, ◌-◌, ◌*◌, ◌/◌, ◌%◌, ◌^◌, cond, ◌&&◌, List, [], ◌∷◌, ◌++◌, length, get_or, take, drop, ◌==◌, nat_le, slice_index, Result, Ok, Err}
 use Rattle.common.specs.Bytes.{part, placed}
 use Rattle.common.specs.Refusals.{stop}
 use Rattle.common.specs.declared.Refusal.{Refusal}
 use Rattle.requests.specs.declared.State.{State}
-use Rattle.requests.specs.declared.State.TheVariants.{Default, Addressed, Configured, Suspend as Suspended}
+use Rattle.requests.specs.Codes.{state_of}
 use Rattle.effects.specs.declared.Action.{Action}
 use Rattle.effects.specs.declared.Action.TheVariants.{Nothing, Resume, Suspend, Reset, UnstallOut, UnstallIn, StallOut, StallIn, Halt, Unhalt, Address, Write, Refused}
 use Rattle.actions.specs.declared.Actions.{Actions}
@@ -23,7 +23,7 @@ use Rattle.lines.specs.Lines.{line_of, bad_line}
 
 -- what the codes of Trace.antt stand for; by `Told.line_reads` the line of an entry is `line_of` of its state, actions and packet
 abbrev pub state_at : ℕ → State
-state_at code = slice_index_or (Default ∷ Addressed ∷ Configured ∷ []) code Suspended
+state_at code = state_of code
 
 unfoldable pub action_at : ℕ → ℕ → Action
 action_at code x =

@@ -8,9 +8,12 @@ ghost use Rattle.stream.specs.Stream.{stop_number, run_of};
 ghost use Rattle.lines.specs.Lines.{digit, hex_of, hexes, decimal, joined, letter_of, word_of, words_of};
 ghost use Rattle.lines.specs.Entries.{Wrote, Printing, state_at, action_at, action_in, actions_in, entry_line, line_in, stop_line, lines_of, room_for, fitting, lines_for, line_room, bad_room};
 
-use common::Refusal;
+use common::{Coded, Refusal};
+use control::{BusAddress, EndpointAddress};
 use device::Device;
+use effects::Action;
 use records::{EVENT, PACKET};
+use requests::State;
 use stream::{ENTRY, Ran, TOP};
 
 // The most digits of a number.
@@ -53,14 +56,36 @@ fn hex(b: u8) -> [u8; 2]
     [digit(b / 16), digit(b % 16)]
 }
 
-fn letter(code: u8) -> u8
-    ensures { result ≡ letter_of (state_at code) }
+fn letter(state: State) -> u8
+    ensures { result ≡ letter_of state }
+{
+    match state {
+        State::Default => b'D',
+        State::Addressed => b'A',
+        State::Configured => b'C',
+        State::Suspend => b'S',
+    }
+}
+
+// The action of its code and argument in a trace entry; a code that no run writes is no action.
+#[tactic(auto, unfolding(crate::specs::Entries::action_at))]
+fn action_at(code: u8, x: u8) -> Action
+    ensures { result ≡ action_at code x }
 {
     match code {
-        0 => b'D',
-        1 => b'A',
-        2 => b'C',
-        _ => b'S',
+        1 => Action::Resume,
+        2 => Action::Suspend,
+        3 => Action::Reset,
+        4 => Action::UnstallOut,
+        5 => Action::UnstallIn,
+        6 => Action::StallOut,
+        7 => Action::StallIn,
+        8 => Action::Halt(EndpointAddress(x)),
+        9 => Action::Unhalt(EndpointAddress(x)),
+        10 => Action::Address(BusAddress(x)),
+        11 => Action::Write(x),
+        12 => Action::Refused(x),
+        _ => Action::Nothing,
     }
 }
 
@@ -101,27 +126,27 @@ impl Writer<'_> {
         self.hexes(bytes);
     }
 
-    #[tactic(auto, unfolding(crate::specs::Entries::action_at, crate::specs::Lines::word_of))]
-    // An action's word, from its code and argument in a trace entry.
-    fn word(&mut self, code: u8, x: u8, packet: &[u8])
+    // An action's word, with the space before it.
+    #[tactic(auto, unfolding(crate::specs::Lines::word_of))]
+    fn word(&mut self, action: Action, packet: &[u8])
         requires { (length packet.now ≤ packet_room) × (self.old.at + 130 ≤ length self.old.out.now) }
-        ensures wrote { Wrote self.new.at self.new.out.now (word_of (action_at code x) packet.now) self.old.out.now self.old.at }
+        ensures wrote { Wrote self.new.at self.new.out.now (word_of action packet.now) self.old.out.now self.old.at }
         ensures same_borrow { self.new.out.ghost_name ≡ self.old.out.ghost_name }
     {
-        match code {
-            1 => self.put(b" rs"),
-            2 => self.put(b" su"),
-            3 => self.put(b" rb"),
-            4 => self.put(b" uo"),
-            5 => self.put(b" ui"),
-            6 => self.put(b" so"),
-            7 => self.put(b" si"),
-            8 => self.joined(b'h', &[x]),
-            9 => self.joined(b'c', &[x]),
-            10 => self.joined(b'a', &[x]),
-            11 => self.joined(b'w', &packet[..packet.len().min(x as usize)]),
-            12 => self.joined(b'x', &packet[..packet.len().min(x as usize)]),
-            _ => {}
+        match action {
+            Action::Nothing => {}
+            Action::Resume => self.put(b" rs"),
+            Action::Suspend => self.put(b" su"),
+            Action::Reset => self.put(b" rb"),
+            Action::UnstallOut => self.put(b" uo"),
+            Action::UnstallIn => self.put(b" ui"),
+            Action::StallOut => self.put(b" so"),
+            Action::StallIn => self.put(b" si"),
+            Action::Halt(e) => self.joined(b'h', &[e.0]),
+            Action::Unhalt(e) => self.joined(b'c', &[e.0]),
+            Action::Address(a) => self.joined(b'a', &[a.0]),
+            Action::Write(n) => self.joined(b'w', &packet[..packet.len().min(n as usize)]),
+            Action::Refused(n) => self.joined(b'x', &packet[..packet.len().min(n as usize)]),
         }
     }
 
@@ -131,7 +156,7 @@ impl Writer<'_> {
         ensures wrote { Wrote self.new.at self.new.out.now (word_of (action_in entry.now i) (drop top_room entry.now)) self.old.out.now self.old.at }
         ensures same_borrow { self.new.out.ghost_name ≡ self.old.out.ghost_name }
     {
-        self.word(entry[i], entry[i + 1], &entry[TOP..]);
+        self.word(action_at(entry[i], entry[i + 1]), &entry[TOP..]);
     }
 
     fn words(&mut self, entry: &[u8])
@@ -171,7 +196,7 @@ impl Writer<'_> {
         ensures same_borrow { self.new.out.ghost_name ≡ self.old.out.ghost_name }
     {
         self.decimal(number);
-        self.put(&[b' ', letter(entry[0])]);
+        self.put(&[b' ', letter(State::of_code(entry[0]))]);
         self.words(entry);
         self.put(b"\n");
     }

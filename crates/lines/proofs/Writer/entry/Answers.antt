@@ -15,4 +15,4 @@ put-requires-2 c = let e = c.args.entry.now in wrote-room 650 1 c.words.ensures.
 
 pub returns-clause-wrote : goal.returns-clause-wrote
 unfolding entry_line line_of
-returns-clause-wrote c = let p = c.requires in let d = short c.decimal.ensures.wrote (decimal-most 20 c.args.number) in let x = wrote-room 20 653 d.wrote d.most p.1 in let l = rw c.letter.ensures at c.put.ensures.wrote in let y = wrote-room 2 651 l (le_refl 2) x in let m = entry-most c.args.entry.now p.0 in (short-then d (short-then (short l (le_refl 2)) (short-then (short c.words.ensures.wrote m) (short c.put-2.ensures.wrote (le_refl 1)) y) x) p.1).wrote
+returns-clause-wrote c = let p = c.requires in let d = short c.decimal.ensures.wrote (decimal-most 20 c.args.number) in let x = wrote-room 20 653 d.wrote d.most p.1 in let l = rw (c.letter.ensures, c.of_code.ensures) at c.put.ensures.wrote in let y = wrote-room 2 651 l (le_refl 2) x in let m = entry-most c.args.entry.now p.0 in (short-then d (short-then (short l (le_refl 2)) (short-then (short c.words.ensures.wrote m) (short c.put-2.ensures.wrote (le_refl 1)) y) x) p.1).wrote

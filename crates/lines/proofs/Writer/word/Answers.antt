@@ -1,9 +1,7 @@
-use Rattle.std.proofs.Common.{◌≤◌, arith}
-use Rattle.lines.proofs.Laws.{wrote_none, word-none}
+use Rattle.lines.specs.Lines.{word_of}
+use Rattle.lines.proofs.Laws.{wrote_none}
 use Rattle.lines.proofs.Writer.word.Goals as goal
 
-pub returns-in_default-clause-wrote : goal.returns-in_default-clause-wrote
-returns-in_default-clause-wrote c =
-    let a = c.args in
-    let l : 1 ≤ a.code → 13 ≤ a.code = λ h. omega arith in
-    rw (← (word-none a.code a.x a.packet.now l)) (wrote_none _ _)
+pub returns-in-Nothing-clause-wrote : goal.returns-in-Nothing-clause-wrote
+unfolding word_of
+returns-in-Nothing-clause-wrote c = rw c.in-Nothing.is (wrote_none _ _)
