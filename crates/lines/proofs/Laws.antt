@@ -1,8 +1,7 @@
 -- Laws of lines that the proofs cite. Assumes nothing.
-use Rattle.std.proofs.Common.{◌≡◌, ℕ, zero, suc, ◌+◌, ◌-◌, ◌*◌, ◌/◌, ◌%◌, ◌^◌, ◌<◌, ◌≤◌, min, Bool, true, false, cond, eqb, ltb, leb, List, [], ◌∷◌, ◌++◌, length, get_or, take, drop, set, sym, refl, ap, ◌∙◌, ap₂, append_assoc, append-nil, add-zero, add-one, arith, length-append, length-drop, length-take, length-take-le, take_all, drop-drop, drop-cons, le-ltb, lt-ltb, leb-false, leb-true}
+use Rattle.std.proofs.Common.{◌≡◌, ℕ, zero, suc, ◌+◌, ◌-◌, ◌*◌, ◌/◌, ◌%◌, ◌^◌, ◌<◌, ◌≤◌, min, Bool, true, false, cond, eqb, ltb, leb, List, [], ◌∷◌, ◌++◌, length, get_or, take, drop, sym, refl, ap, ◌∙◌, ap₂, append_assoc, append-nil, add-zero, add-one, arith, length-append, length-drop, length-take, length-take-le, take_all, drop-drop, drop-cons, le-ltb, lt-ltb, leb-false, leb-true}
 use native.Mathlib.Nat.{sub-zero}
 use lib.ListN.{drop_of_length-le}
-use lib.Seq.{set_split}
 use Rattle.common.specs.Bytes.{placed}
 use Rattle.common.proofs.Laws.{placed-nil, placed-more, length-placed, cond-elim, at_most}
 use Rattle.common.proofs.Pending.{Pending, pending-start, pending-as, pending-turn, pending-end}
@@ -15,10 +14,6 @@ use Rattle.lines.specs.Lines.{digit, hex_of, hexes, decimal_in, decimal, word_of
 use Rattle.lines.specs.Entries.{Wrote, state_at, action_in, actions_in, entry_line, stop_line, lines_of, after, line_room, bad_room, room_for}
 
 -- ---- bytes one after the other
-
-pub set-placed : (d : List ℕ) (at b : ℕ) → at + 1 ≤ length d → set d at b ≡ placed d at (b ∷ [])
-unfolding placed
-set-placed d at b l = let k : at < length d = omega arith in rw (add-one at) (set_split d at b k)
 
 pub wrote_none : (d : List ℕ) (at : ℕ) → Wrote at d [] d at
 wrote_none d at = record { value = sym (add-zero at); out = sym (placed-nil d at) }
@@ -159,9 +154,6 @@ take_min n p = by (leb n (length p)) refl
         let e : min n (length p) ≡ length p = omega arith in
         rw e (take_all (length p) p (omega arith) ∙ sym (take_all n p (omega arith)))
 
-pub slice-rest : (k : ℕ) (l : List ℕ) → take (length l - k) (drop k l) ≡ drop k l
-slice-rest k l = take_all (length l - k) (drop k l) (rw (length-drop k l) (omega arith))
-
 -- an action's word in an entry
 pub slot-most : (e : List ℕ) → length e ≡ entry_room → (i : ℕ) → length (word_of (action_in e i) (drop top_room e)) ≤ 130
 slot-most e l i = let k = length-drop top_room e in word-most (action_in e i) (drop top_room e) (omega (arith, k, l))
@@ -260,6 +252,3 @@ module _ (trace : List ℕ) (count why : ℕ) {whole d₀ : List ℕ} (i n : ℕ
 pub room_small : (n : ℕ) → 80 * room_for n ≤ n
 unfolding room_for
 room_small n = omega arith
-
-pub least-long : {m : ℕ} (k : ℕ) (l : List ℕ) → m ≡ min k (length l) → m ≡ length (take m l)
-least-long {m} k l e = sym (length-take-le m l (omega arith))
