@@ -27,6 +27,7 @@ const TRACE: usize = RECORDS * ENTRY;
 /// Where the actions stand in a trace entry.
 const ACTIONS: usize = 8;
 
+// The code of `ui` in a trace entry, which holds bytes and no actions.
 const UNSTALL_IN: u8 = 5;
 
 /// The actions that a stream's line shows, two bytes each: all but none and the `ui`.

@@ -35,15 +35,10 @@ pub fn used(bytes: &[u8]) -> usize
     }
 }
 
-/// Prints a byte as two digits of hex, in lower case. (No contract can say what is printed.)
-pub fn byte<R: Print>(rt: &R, b: u8) -> io::Result<()> {
-    print!(rt; "{b:02x}")
-}
-
 /// Prints bytes in hex, one after the other. (No contract can say what is printed.)
 pub fn hex<R: Print>(rt: &R, bytes: &[u8]) -> io::Result<()> {
     for &b in bytes {
-        byte(rt, b)?;
+        print!(rt; "{b:02x}")?;
     }
     Ok(())
 }

@@ -5,7 +5,7 @@
 use control::EndpointAddress;
 use plan::{Basics, Endpoint, Interface, Kind, Plan};
 use record::{Name, Record};
-use std::io::{self, Write};
+use std::io;
 
 // The numbers of a case. A step leads from an endpoint's address, or from a language, to the next.
 #[derive(Clone, Copy)]

@@ -43,6 +43,7 @@ struct Writer<'a> {
     at: usize,
 }
 
+// Hex and decimal by hand: std's formatting has no contract that names the bytes of a slice.
 fn digit(d: u8) -> u8
     requires { d < 16 }
     ensures { result ≡ digit d }
@@ -234,6 +235,7 @@ fn all(number: u64, count: usize, stop: Option<Refusal>, trace: &[u8], out: &mut
 {
     let mut n = number;
     let mut writer = Writer { out, at: 0 };
+    // an index, as in `stream::run`, whose entries these are; the numbers wrap, which no range does
     for i in 0..count {
         writer.entry(n, &trace[ENTRY * i..ENTRY * i + ENTRY]);
         n = n.wrapping_add(1);

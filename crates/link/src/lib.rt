@@ -25,7 +25,7 @@ fn number(stop: Option<Refusal>) -> u8
     }
 }
 
-// A count and the number of a refusal in one answer.
+// A count and the number of a refusal in one answer, as the C interface has them.
 fn answer(count: usize, stop: Option<Refusal>) -> usize
     requires { 16 * count + 256 ≤ 2 ^ 64 }
     ensures { result ≡ answer_of count (stop_number stop) }

@@ -242,8 +242,9 @@ fn endpoints_fine(s: &[u8]) -> bool
     requires { length s.now ≡ endpoint_size * endpoint_room }
     ensures { result ≡ every endpoint_coded (entries endpoint_room endpoint_size same s.now) }
 {
+    // a loop: the definition asks of each entry, and `chunks_exact` here proved no shorter
     for i in 0..ENDPOINTS {
-        if 1 < s[ENDPOINT * i + 1] {
+        if Kind::Interrupt.code() < s[ENDPOINT * i + 1] {
             return false;
         }
     }

@@ -29,6 +29,7 @@ pub struct Happening {
     pub length: u8,
 }
 
+// A record's own codes, of which `data_fine` has told before: no type here has more to say of them.
 fn read_at(n: u8) -> Read
     ensures { result ≡ read_at n }
 {

@@ -138,7 +138,7 @@ pub fn run(device: &mut Device, book: &[u8], events: &[u8], trace: &mut [u8]) ->
     // once is enough: no step leaves a device that the next may not have
     let fit = device.live.check_step(&device.profile, book.len(), PACKET);
     let turns = turns(events.len(), trace.len());
-    // an index: after `chunks_mut` a proof knows no more of the trace than its length
+    // an index for both: after `chunks_mut` a proof knows no more of the trace than its length
     for i in 0..turns {
         let rest = &events[EVENT * i..];
         let s = &rest[..rest.len().min(EVENT)];

@@ -44,9 +44,7 @@ fn replay<R: Print>(rt: &R, packet: u8, events: &[u8]) -> io::Result<()> {
     let why = ran.stop.map_or(0, Refusal::number);
     entries(rt, &trace, ran.count)?;
     print!(rt; "{packet} {} {why} {held} {denied} ", ran.count)?;
-    for &b in room.iter().take(held) {
-        console::byte(rt, b)?;
-    }
+    console::hex(rt, &room[..held.min(BUFFER)])?;
     println!(rt;)
 }
 
