@@ -242,9 +242,9 @@ fn endpoints_fine(s: &[u8]) -> bool
     requires { length s.now ≡ endpoint_size * endpoint_room }
     ensures { result ≡ every endpoint_coded (entries endpoint_room endpoint_size same s.now) }
 {
-    // a loop: the definition asks of each entry, and `chunks_exact` here proved no shorter
+    // tried with `Kind::Interrupt.code()` and the proof did not close; an index, since each entry has five bytes
     for i in 0..ENDPOINTS {
-        if Kind::Interrupt.code() < s[ENDPOINT * i + 1] {
+        if 1 < s[ENDPOINT * i + 1] {
             return false;
         }
     }
