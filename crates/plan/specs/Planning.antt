@@ -1,25 +1,21 @@
 -- What each way to fill a plan makes of it. What has no place spoils a count, which refusal 2 then names.
-use Rattle.std.specs.Prelude.{ℕ, ◌+◌, cond, ltb, List, length, set, replicate}
+use Rattle.std.specs.Prelude.{ℕ, ◌+◌, cond, ltb, set, replicate}
 use Rattle.plan.specs.declared.Basics.{Basics}
 use Rattle.plan.specs.declared.Interface.{Interface}
-use Rattle.plan.specs.declared.Interfaces.{Interfaces}
 use Rattle.plan.specs.declared.Endpoint.{Endpoint}
-use Rattle.plan.specs.declared.Endpoints.{Endpoints}
+use Rattle.plan.specs.declared.Listed.{Listed}
 use Rattle.plan.specs.declared.Kind.TheVariants.{Bulk}
 use Rattle.plan.specs.declared.Plan.{Plan}
 use Rattle.plan.specs.Sizes.{interface_room, endpoint_room, spoilt}
 
--- the next place of a list takes x, and is counted; beyond the last place the list stays, and the count is spoilt
-abbrev pub next_list : {T : Type 0} → T → List T → ℕ → List T
-next_list x list count = cond (ltb count (length list)) (set list count x) list
+-- the next place takes x, and is counted; beyond the last place the count is spoilt
+abbrev pub added : {T : Type 0} {room : ℕ} → T → Listed T room → Listed T room
+added {T} {room} x l = cond (ltb l.count room) (record { count = l.count + 1; list = set l.list l.count x }) (record { count = spoilt; list = l.list })
 
-abbrev pub next_count : ℕ → ℕ → ℕ
-next_count room count = cond (ltb count room) (count + 1) spoilt
-
-abbrev pub add_interface : Interface → Interfaces → Interfaces
+abbrev pub add_interface : Interface → Listed Interface interface_room → Listed Interface interface_room
 add_interface x l = cond (ltb l.count interface_room) (record { count = l.count + 1; list = set l.list l.count x }) (record { count = spoilt; list = l.list })
 
-abbrev pub add_endpoint : Endpoint → Endpoints → Endpoints
+abbrev pub add_endpoint : Endpoint → Listed Endpoint endpoint_room → Listed Endpoint endpoint_room
 add_endpoint x l = cond (ltb l.count endpoint_room) (record { count = l.count + 1; list = set l.list l.count x }) (record { count = spoilt; list = l.list })
 
 -- a plan with the basics alone

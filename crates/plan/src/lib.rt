@@ -4,9 +4,9 @@
 //! in silence. What lies beyond a count is not looked at.
 #![tactic(auto)]
 
-ghost use Rattle.std.specs.Prelude.{◌≡◌, ◌≤◌, length};
+ghost use Rattle.std.specs.Prelude.{◌≡◌, ◌≤◌};
 ghost use Rattle.plan.specs.Sizes.{spoilt};
-ghost use Rattle.plan.specs.Planning.{next_list, next_count, bare, with_interface, with_endpoint};
+ghost use Rattle.plan.specs.Planning.{added, bare, with_interface, with_endpoint};
 
 use common::Coded;
 use control::EndpointAddress;
@@ -71,23 +71,18 @@ pub struct Endpoint {
     pub interface: u8,
 }
 
-// A count stands beside each list, since any count is a record: `limits::check` names one beyond the list (refusal 2).
+// A count stands beside the list, since any count is a record: `limits::check` names one beyond the list (refusal 2).
 
-/// The first `count` of the list are the interfaces.
-// A count beside a list: what lies behind the count is part of the record, whose bytes are written back equal.
+/// The first `count` of the list are what it holds.
 #[derive(Clone, Copy, Debug, PartialEq, Eq)]
-pub struct Interfaces {
+pub struct Listed<T, const ROOM: usize> {
     pub count: u8,
-    pub list: [Interface; INTERFACES],
+    pub list: [T; ROOM],
 }
 
-/// The first `count` of the list are the endpoints.
-// A count beside a list, as for the interfaces.
-#[derive(Clone, Copy, Debug, PartialEq, Eq)]
-pub struct Endpoints {
-    pub count: u8,
-    pub list: [Endpoint; ENDPOINTS],
-}
+pub type Interfaces = Listed<Interface, INTERFACES>;
+
+pub type Endpoints = Listed<Endpoint, ENDPOINTS>;
 
 /// The plan of a device.
 #[derive(Clone, Copy, Debug, PartialEq, Eq)]
@@ -120,18 +115,19 @@ impl Coded for Kind {
     }
 }
 
-// The next place takes x and is counted; beyond the last place the count is spoilt.
-fn add<T: Copy>(list: &mut [T], count: &mut u8, x: T)
-    requires { length list.old ≤ spoilt }
-    ensures list { list.new ≡ next_list x list.old count.old }
-    ensures count { count.new ≡ next_count (length list.old) count.old }
-{
-    let at = *count as usize;
-    if at < list.len() {
-        list[at] = x;
-        *count += 1;
-    } else {
-        *count = SPOILT;
+impl<T: Copy, const ROOM: usize> Listed<T, ROOM> {
+    // The next place takes x and is counted; beyond the last place the count is spoilt.
+    fn add(&mut self, x: T)
+        requires { ROOM ≤ spoilt }
+        ensures { self.new ≡ added x self.old }
+    {
+        let at = self.count as usize;
+        if at < ROOM {
+            self.list[at] = x;
+            self.count += 1;
+        } else {
+            self.count = SPOILT;
+        }
     }
 }
 
@@ -170,11 +166,7 @@ impl Plan {
     pub fn with_interface(mut self, interface: Interface) -> Plan
         ensures { result ≡ with_interface interface self }
     {
-        add(
-            &mut self.interfaces.list,
-            &mut self.interfaces.count,
-            interface,
-        );
+        self.interfaces.add(interface);
         self
     }
 
@@ -182,11 +174,7 @@ impl Plan {
     pub fn with_endpoint(mut self, endpoint: Endpoint) -> Plan
         ensures { result ≡ with_endpoint endpoint self }
     {
-        add(
-            &mut self.endpoints.list,
-            &mut self.endpoints.count,
-            endpoint,
-        );
+        self.endpoints.add(endpoint);
         self
     }
 }

@@ -11,7 +11,7 @@ ghost use Rattle.record_bytes.specs.Layout.{endpoint_size, word_size, text_size,
 
 use common::Coded;
 use control::EndpointAddress;
-use plan::{Basics, ENDPOINTS, Endpoint, Endpoints, INTERFACES, Interface, Interfaces, Kind, Plan};
+use plan::{Basics, ENDPOINTS, Endpoint, INTERFACES, Interface, Kind, Plan};
 use record::{LANGUAGES, Language, NAMES, Record, STRINGS, TEXT, Text, UNITS};
 
 // The sizes, each named once: of the head, of an entry of each list, of the whole.
