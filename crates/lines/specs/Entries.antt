@@ -21,7 +21,7 @@ use Rattle.lines.specs.Lines.{line_of, bad_line}
 
 -- ---- a line from a trace entry
 
--- what the codes of Trace.antt stand for; by `Told.line_reads` the line of an entry is `line_of` of its state, actions and packet
+-- what the codes of a trace entry stand for; by `Told.line_reads` the line of an entry is `line_of` of its state, actions and packet
 abbrev pub state_at : ℕ → State
 state_at code = state_of code
 

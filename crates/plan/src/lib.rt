@@ -71,17 +71,18 @@ pub struct Endpoint {
     pub interface: u8,
 }
 
-// A count stands beside the list, since any count is a record: `limits::check` names one beyond the list (refusal 2).
-
 /// The first `count` of the list are what it holds.
+// A count beside the list: any count is a record, whose bytes are written back equal, and refusal 2 names one beyond the list.
 #[derive(Clone, Copy, Debug, PartialEq, Eq)]
 pub struct Listed<T, const ROOM: usize> {
     pub count: u8,
     pub list: [T; ROOM],
 }
 
+/// The interfaces of a plan, numbered from 0 in this order.
 pub type Interfaces = Listed<Interface, INTERFACES>;
 
+/// The endpoints of a plan, in record order.
 pub type Endpoints = Listed<Endpoint, ENDPOINTS>;
 
 /// The plan of a device.
