@@ -1,4 +1,5 @@
-//! The configuration descriptor with its interfaces and their endpoints, written into a lent buffer at a position.
+//! The configuration descriptor with its interfaces and their endpoints, written into a lent buffer at a position: a slice and a
+//! number, over which the writer is thin.
 #![tactic(auto)]
 
 ghost use Rattle.std.specs.Prelude.{◌≡◌, true, ◌+◌, ◌≤◌, length, Some};
@@ -6,7 +7,7 @@ ghost use Rattle.common.specs.Bytes.{placed};
 ghost use Rattle.plan.specs.Sizes.{interface_room, endpoint_room};
 ghost use Rattle.limits.specs.Limits.{layout_fine, lowest};
 ghost use Rattle.descriptor.specs.Writing.{Put, Wrote};
-ghost use Rattle.configuration.specs.Configuration.{bit, transfer_of, endpoint_bytes, interface_bytes, owned, joined, interface_set, interface_sets, head_bytes, configuration_bytes};
+ghost use Rattle.configuration.specs.Configuration.{transfer_of, endpoint_bytes, interface_bytes, owned, joined, interface_set, interface_sets, head_bytes, configuration_bytes};
 ghost use Rattle.configuration.specs.Adding.{Added};
 
 use common::Refusal;
@@ -70,16 +71,9 @@ fn head_bytes(plan: &Plan, total: u16) -> [u8; CONFIGURATION]
         plan.interfaces.count,
         1,
         0,
-        128 + value_if(basics.powered, 64) + value_if(basics.wakeup, 32),
+        128 + 64 * (basics.powered as u8) + 32 * (basics.wakeup as u8),
         basics.power,
     ]
-}
-
-fn value_if(on: bool, value: u8) -> u8
-    ensures value { result ≡ bit on value }
-    ensures most { result ≤ value }
-{
-    if on { value } else { 0 }
 }
 
 // The interfaces, each followed by its own of the endpoints.

@@ -27,6 +27,10 @@ recipient_of b = get_or (Device ∷ Interface ∷ Endpoint ∷ Other ∷ []) (b 
 abbrev pub word_at : List ℕ → ℕ → ℕ
 word_at s at = get_or s at 0 + 256 * get_or s (at + 1) 0
 
+-- and the two bytes of a number
+abbrev pub word_bytes : ℕ → List ℕ
+word_bytes n = n % 256 ∷ n / 256 ∷ []
+
 -- bmRequestType, bRequest, wValue, wIndex, wLength, in the order of the table
 abbrev pub request_of : List ℕ → Request
 request_of s =

@@ -132,6 +132,7 @@ impl Coded for Recipient {
 }
 
 /// The word of two bytes, the low one first.
+// Its clause is in the words of the definitions, which `from_le_bytes` has not.
 pub fn word(first: u8, second: u8) -> u16
     ensures { result ≡ first + 256 * second }
 {

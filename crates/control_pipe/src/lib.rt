@@ -163,6 +163,7 @@ impl Heard {
 }
 
 /// At an IN-complete: what the bus is told, and whether a status stage is complete.
+// `done` is an answer of its own: no value here counts only where it is true.
 #[derive(Clone, Copy, Debug, PartialEq, Eq)]
 pub struct Moved {
     pub told: Told,
@@ -170,6 +171,7 @@ pub struct Moved {
 }
 
 /// What a packet is sent with: endpoint 0's packet size, whether the bus takes the write, and the lent book.
+// The buffer and the room are lent beside it: a struct that holds a `&mut` costs each caller a clause about its borrow.
 #[derive(Clone, Copy)]
 pub struct Bus<'a> {
     pub size: u8,

@@ -1,13 +1,10 @@
 -- USB 2.0 section 9.6.1: the device descriptor as the list of its bytes, in the order of its table. Document 01, module 2.
 use Rattle.std.specs.Prelude.{ℕ, ◌+◌, ◌/◌, ◌%◌, Bool, cond, not, List, [], ◌∷◌, eqb, take}
 use Rattle.std.specs.List.{list_any}
+pub use Rattle.control.specs.Setup.{word_bytes}
 use Rattle.record.specs.Filling.{text_at}
 use Rattle.record.specs.declared.Record.{Record}
 use Rattle.record.specs.declared.Language.{Language}
-
--- a word of two bytes, the low one first
-abbrev pub word_bytes : ℕ → List ℕ
-word_bytes n = n % 256 ∷ n / 256 ∷ []
 
 -- the languages that a record counts
 abbrev pub spoken : Record → List Language

@@ -41,6 +41,7 @@ pub fn counted<T, const N: usize>(list: &[T; N], count: u8) -> &[T]
 }
 
 /// A word of two bytes, the low one first.
+// Its clause is in the words of the definitions, which `to_le_bytes` has not.
 pub fn word_bytes(word: u16) -> [u8; 2]
     ensures { result ≡ word_bytes word }
 {

@@ -46,6 +46,7 @@ pub struct Stepped {
 }
 
 /// Why there is no device, and the unbuilt one, which every call refuses with 9.
+// A refused building returns an unbuilt device, so it stands in the error.
 #[derive(Clone, Copy, Debug, PartialEq, Eq)]
 pub struct Unbuilt {
     pub device: Device,
@@ -132,6 +133,7 @@ impl Device {
         }
     }
 
+    // By value: `poll::poll` is the one function that changes a device in place.
     /// One event of the bus, with the tile book and the packet that it brings and a room for the packet that it sends.
     ///
     /// # Errors

@@ -16,7 +16,7 @@ pub const POWER: u8 = 250;
 /// The most bytes of a packet of endpoints 1 to 15.
 pub const SIZE: u8 = 64;
 
-// What is told apart by a number.
+// What is told apart by a number. (The words of `strings` are another trait: a UTF-16 unit is one, and no key.)
 trait Keyed {
     ghost key: { Self → ℕ };
 

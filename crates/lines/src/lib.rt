@@ -57,6 +57,7 @@ fn hex(b: u8) -> [u8; 2]
     [digit(b / 16), digit(b % 16)]
 }
 
+// The letters of replay's format.
 fn letter(state: State) -> u8
     ensures { result ≡ letter_of state }
 {
@@ -68,7 +69,8 @@ fn letter(state: State) -> u8
     }
 }
 
-// The action of its code and argument in a trace entry; a code that no run writes is no action.
+// The action of its code and argument in a trace entry, as `stream` writes them; a code that no run writes is no action. (A code
+// that has an argument is no `Coded`.)
 #[tactic(auto, unfolding(crate::specs::Entries::action_at))]
 fn action_at(code: u8, x: u8) -> Action
     ensures { result ≡ action_at code x }
@@ -97,6 +99,8 @@ fn is_bad(stop: Option<Refusal>) -> bool
     matches!(stop, Some(Refusal::BadEvent))
 }
 
+// Each method needs room of its own, and that the borrow stays the same speaks of before and after: neither is an invariant. An
+// entry is a slice of known length, a part of a trace that is cut by its index.
 impl Writer<'_> {
     fn put(&mut self, bytes: &[u8])
         requires { self.old.at + length bytes.now ≤ length self.old.out.now }
@@ -160,6 +164,7 @@ impl Writer<'_> {
         self.word(action_at(entry[i], entry[i + 1]), &entry[TOP..]);
     }
 
+    // One by one, as `Actions` has five fields.
     fn words(&mut self, entry: &[u8])
         requires { (length entry.now ≡ entry_room) × (self.old.at + 650 ≤ length self.old.out.now) }
         ensures wrote { Wrote self.new.at self.new.out.now (words_of (actions_in entry.now) (drop top_room entry.now)) self.old.out.now self.old.at }

@@ -15,7 +15,7 @@ use record_bytes::RECORD;
 use state::{Parts, STATE};
 use stream::Ran;
 
-// The number of what stops a call, or 0.
+// The number of what stops a call, or 0, as the C interface has it.
 fn number(stop: Option<Refusal>) -> u8
     ensures { result ≡ stop_number stop }
 {

@@ -22,6 +22,7 @@ pub const ADDRESSES: u8 = 127;
 pub struct Live {
     pub pipe: Pipe,
     pub kept: Kept,
+    // plain values and no `Option`: a state with any of them is read back, and refusal 9 tells which may be used
     pub before: State,
     pub book: u32,
     pub built: bool,

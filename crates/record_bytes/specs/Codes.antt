@@ -1,11 +1,9 @@
 -- How a value stands in bytes: a number little-endian, yes and no as 1 and 0, a list entry by entry.
 use Rattle.std.specs.Prelude.{ℕ, zero, suc, ◌+◌, ◌*◌, ◌/◌, ◌%◌, Bool, cond, List, [], ◌∷◌, ◌++◌, eqb, leb, get_or, take, drop}
+pub use Rattle.control.specs.Setup.{word_bytes}
 use Rattle.control.specs.Setup.{word_at}
 
--- a number of two bytes, and of four
-abbrev pub word_bytes : ℕ → List ℕ
-word_bytes n = n % 256 ∷ n / 256 ∷ []
-
+-- a number of four bytes (of two: `word_bytes`)
 abbrev pub long_bytes : ℕ → List ℕ
 long_bytes n = n % 256 ∷ n / 256 % 256 ∷ n / 65536 % 256 ∷ n / 16777216 ∷ []
 

@@ -242,7 +242,7 @@ fn endpoints_fine(s: &[u8]) -> bool
     requires { length s.now ≡ endpoint_size * endpoint_room }
     ensures { result ≡ every endpoint_coded (entries endpoint_room endpoint_size same s.now) }
 {
-    // tried with `Kind::Interrupt.code()` and the proof did not close; an index, since each entry has five bytes
+    // tried with `chunks_exact` and with `Kind::Interrupt.code()`, and the proof did not close
     for i in 0..ENDPOINTS {
         if 1 < s[ENDPOINT * i + 1] {
             return false;

@@ -57,6 +57,7 @@ pub struct Kept {
 }
 
 /// What an accepted OUT request does.
+// `Nothing` is a case: a request that changes nothing is accepted all the same.
 #[derive(Clone, Copy, Debug, PartialEq, Eq)]
 pub enum Effect {
     Nothing,
@@ -77,7 +78,7 @@ pub enum Decision {
     Accept(Effect),
 }
 
-// The endpoint that an index names.
+// The endpoint that an index names. (Fields of bits by quotient and remainder, as the definition has them.)
 fn endpoint_of(index: u16) -> EndpointAddress
     ensures { result ≡ endpoint_of index }
 {
@@ -85,6 +86,7 @@ fn endpoint_of(index: u16) -> EndpointAddress
     EndpointAddress(low / 128 * 128 + low % 16)
 }
 
+// Where a halt is kept, by quotient and remainder likewise.
 fn halt_place(e: EndpointAddress) -> u32
     ensures place { result ≡ halt_place e }
     ensures small { result < 32 }

@@ -47,6 +47,7 @@ pub(crate) fn request<R: Print>(rt: &R, r: Request) -> io::Result<()> {
     next(rt, r.length as u64)
 }
 
+// The letters of what this program prints, which no other does.
 fn direct(d: Direction) -> u8 {
     match d {
         Direction::Out => b'o',

@@ -1,6 +1,7 @@
 -- The trace of a run: an entry of 82 bytes for each event. State, answer, the masks setup, out and in (little-endian), five
 -- actions as a code and an argument, then the packet that was written, zero-filled to 64.
 use Rattle.std.specs.Prelude.{ℕ, ◌/◌, ◌%◌, cond, List, [], ◌∷◌, ◌++◌}
+pub use Rattle.control.specs.Setup.{word_bytes}
 use Rattle.requests.specs.declared.State.{State}
 use Rattle.requests.specs.Codes.{state_code}
 use Rattle.effects.specs.declared.Action.{Action}
@@ -44,9 +45,6 @@ argument_of (Unhalt e) = e.0
 argument_of (Address a) = a.0
 argument_of (Write n) = n
 argument_of (Refused n) = n
-
-abbrev pub word_bytes : ℕ → List ℕ
-word_bytes n = n % 256 ∷ n / 256 ∷ []
 
 abbrev pub action_bytes : Action → List ℕ
 action_bytes a = action_code a ∷ argument_of a ∷ []

@@ -82,7 +82,7 @@ fn top(state: State, polled: &Polled) -> [u8; TOP]
     ]
 }
 
-// An entry: its head, then the room.
+// An entry: its head, then the room. (A slice of known length: `chunks_mut` and its like tell a proof too little.)
 fn put_entry(state: State, polled: &Polled, room: &[u8; PACKET], entry: &mut [u8])
     requires { length entry.old ≡ entry_room }
     ensures { entry.new ≡ entry_of state polled.now room.now }

@@ -12,7 +12,7 @@ use common::Refusal;
 use descriptor::{Written, counted, word_bytes};
 use record::{Language, NAMES, Record, Text};
 
-// What stands in a text as a word of two bytes.
+// What stands in a text as a word of two bytes. (The keys of `limits` are another trait: an address is one, and is no word.)
 trait Word {
     ghost word: { Self → ℕ };
 

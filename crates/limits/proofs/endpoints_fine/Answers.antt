@@ -1,9 +1,9 @@
 use mathlib.Core.Path.{◌≡◌, ◌∙◌, sym}
-use mathlib.Core.Bool.{true, false}
+use mathlib.Core.Bool.{true}
 use mathlib.Core.List.{map}
 use borrow.Author.Rules.{rules}
 use Rattle.common.specs.Lists.{every, none_twice}
-use Rattle.common.proofs.Laws.{tests, and-false}
+use Rattle.common.proofs.Laws.{tests}
 use Rattle.std.proofs.lemmas.Iterator.{YieldsList-from_slice}
 use Rattle.std.proofs.lemmas.Iterator.Search.{all_from_yields_List}
 use Rattle.limits.specs.Limits.{address_of, endpoint_fine}
@@ -17,9 +17,3 @@ returns-then-none_twice c =
     let e : none_twice (map address_of xs) ≡ true = sym c.none_twice.ensures ∙ c.if-none_twice.true in
     let each = all_from_yields_List test _ _ c.all.result c.all.ensures.ran (YieldsList-from_slice xs cc) (λ x b q k. search (rules, tests)) ∙ every-all test xs in
     rw e (each ∙ sym (and-true (every test xs)))
-
-pub returns-else-none_twice : goal.returns-else-none_twice
-returns-else-none_twice c =
-    let a = c.args in
-    let e : none_twice (map address_of a.list.now) ≡ false = sym c.none_twice.ensures ∙ c.if-none_twice.false in
-    rw e (c.if-none_twice.false ∙ sym (and-false (every (endpoint_fine a.interfaces) a.list.now)))
