@@ -70,6 +70,7 @@ fn replay<R: Print>(
     for entry in entries.iter().take(ran.count) {
         line(rt, entry)?;
     }
+    // 0 for no refusal, as the stored output has it
     println!(rt; "{}", ran.stop.map_or(0, Refusal::number))
 }
 

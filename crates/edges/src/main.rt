@@ -109,7 +109,7 @@ fn spoken(case: &Case) -> Record {
     }
 }
 
-// The number that refuses the record of a case; 0 for none.
+// The number that refuses the record of a case; 0 for none, as the stored output has it.
 fn number(case: &Case) -> u8 {
     match limits::check(&spoken(case)) {
         Ok(()) => 0,

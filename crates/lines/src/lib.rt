@@ -36,7 +36,8 @@ pub struct Printed {
     pub stop: Option<Refusal>,
 }
 
-// Where lines are written: the room, and the place of the next byte.
+// Where lines are written: the room, and the place of the next byte. (The writer of descriptors is another: it appends what fits
+// or nothing, and here the room is proved.)
 #[derive(Drop)]
 struct Writer<'a> {
     out: &'a mut [u8],

@@ -37,6 +37,7 @@ fn replay<R: Print>(rt: &R, packet: u8, events: &[u8]) -> io::Result<()> {
     let mut trace = [0; ROOM];
     let ran = stream::run(&mut device, &TILES, events, &mut trace);
     let mut room = [0; BUFFER];
+    // 0 for no refusal, as the stored output has it
     let (held, denied) = match device.data(&mut room) {
         Ok(n) => (n, 0),
         Err(why) => (0, why.number()),

@@ -27,6 +27,7 @@ struct Stream<'a> {
     events: &'a [u8],
 }
 
+// Replay goes on likewise, but tells of a trouble on standard error and ends with 0; here an error is handed on.
 /// The lines of a stream.
 fn tell<R: Print>(rt: &R, stream: Stream) -> io::Result<()> {
     let mut device = Device::build(pan::noted(), 0).unwrap_or_else(|unbuilt| unbuilt.device);
