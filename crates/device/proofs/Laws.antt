@@ -1,23 +1,25 @@
 -- Laws of the device's calls that the proofs cite. Assumes nothing.
 use Prim.Native.Nat.{ℕ, ◌+◌, ◌≤◌}
 use mathlib.Core.Bool.{Bool, true, false, cond, ◌&&◌}
-use mathlib.Core.Path.{◌≡◌, refl, ◌∙◌}
+use mathlib.Core.Path.{◌≡◌, refl, ap, ◌∙◌}
 use mathlib.Core.List.{List}
 use native.Mathlib.Omega.{arith}
 use borrow.Author.Tests.{le-leb, leb-true, eqb-true}
 use lib.Dec.{eqb, leb}
 use lib.ListN.{length, take}
-use Rattle.std.specs.Prelude.{Ok}
+use Rattle.std.specs.Prelude.{Result, Ok, ⊤}
 use Rattle.common.specs.Bytes.{piece, stored, front}
+use Rattle.common.specs.declared.Refusal.{Refusal}
 use Rattle.common.proofs.Refusals.{Named, passed, refused}
 use Rattle.common.proofs.Laws.{cond-elim, and_left, and_right, stored-front}
 use Rattle.record.specs.declared.Record.{Record}
 use Rattle.limits.specs.Limits.{lowest}
 use Rattle.limits.proofs.Good.{lowest-number}
 use Rattle.control_pipe.specs.Sizes.{buffer_room}
-use Rattle.live.specs.Live.{book_fine, coming_fine, reply_fine, pipe_fine, state_fine, live_fine, unfit, step_refusal}
+use Rattle.live.specs.declared.Live.{Live}
+use Rattle.live.specs.Live.{Setting as Set, book_fine, coming_fine, reply_fine, pipe_fine, state_fine, live_fine, unfit, step_refusal, with_powered as with_live, powered_of as powered_live}
 use Rattle.device.specs.declared.Device.{Device}
-use Rattle.device.specs.Device.{build_refusal, refused_by, unfit_device, data_refusal, data_refused, handed_room, Handing}
+use Rattle.device.specs.Device.{build_refusal, refused_by, unfit_device, data_refusal, data_refused, handed_room, Handing, Setting, of_parts, with_powered, powered_of}
 
 -- what a test tells of its number
 pub ruleset tests = (passed, refused)
@@ -85,3 +87,12 @@ data-handed d room l f a h m e =
       value = rw (f, a, h, m) refl;
       room = rw (f, a, h, m) (data-placed d.buffer room l (awaited-fits d (eqb-true (unfit_device d) 0 f)) e);
     }
+
+-- the flag set in the live part is the flag set in the device
+pub powered_device : {x : Result ⊤ Refusal} {l : Live} (d : Device) (on : Bool) → Set x l d.profile d.live on → Setting x (record d { live = l }) d on
+unfolding powered_of powered_live
+powered_device {x} {l} d on h = record { value = h.value; device = by (eqb (unfit_device d) 0) h.live }
+  where
+    by : (t : Bool) → l ≡ cond t (with_live on d.live) d.live → ◌≡◌ {A = Device} (record d { live = l }) (cond t (with_powered on d) d)
+    by true q = ap (λ (m : Live). of_parts d.profile m d.buffer) q
+    by false q = ap (λ (m : Live). of_parts d.profile m d.buffer) q

@@ -9,6 +9,7 @@ use Rattle.actions.proofs.Actions.tell.Reads as tell
 use Rattle.device.specs.declared.Device.{Device}
 use Rattle.device.specs.declared.Stepped.{Stepped}
 use Rattle.device.proofs.said.Reads as said
+use Rattle.device.proofs.hand_out.Reads as hand_out
 use Rattle.device.proofs.Device.build.Reads as build
 use Rattle.device.proofs.Device.step.Reads as step
 use Rattle.device.proofs.Device.data.Reads as data_of
@@ -28,6 +29,9 @@ build-once κs a x y s t = equal
 
 pub step-once : Once {B = Stepped × List ℕ} step.Post (λ κs x s. (x, s.1.1.1.1.0.now))
 step-once κs a x y s t p q = equals p.value p.room q.value q.room
+
+pub hand_out_once : Once {B = Result ℕ Refusal × List ℕ} hand_out.Post (λ κs x s. (x, s.1.1.1.0.now))
+hand_out_once κs a x y s t p q = equals p.value p.room q.value q.room
 
 pub data-once : Once {B = Result ℕ Refusal × List ℕ} data_of.Post (λ κs x s. (x, s.1.0.now))
 data-once κs a x y s t p q = equals p.value p.room q.value q.room

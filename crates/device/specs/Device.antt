@@ -9,7 +9,8 @@ use Rattle.record.specs.declared.Record.{Record}
 use Rattle.limits.specs.Limits.{lowest}
 use Rattle.control_pipe.specs.Stages.{zeros}
 use Rattle.control_pipe.specs.declared.Coming.{Coming}
-use Rattle.live.specs.Live.{fresh as fresh_live, book_fine, unfit, step_refusal}
+use Rattle.live.specs.declared.Live.{Live}
+use Rattle.live.specs.Live.{fresh as fresh_live, book_fine, unfit, step_refusal, with_powered as with_powered_live}
 use Rattle.events.specs.declared.Event.{Event}
 use Rattle.events.specs.declared.Event.TheVariants.{Nothing, Reset, Suspend, Resume, Data}
 use Rattle.events.specs.declared.Handled.{Handled}
@@ -20,6 +21,10 @@ use Rattle.device.specs.declared.Masks.{Masks}
 use Rattle.device.specs.declared.Polled.{Polled}
 use Rattle.device.specs.declared.Stepped.{Stepped}
 use Rattle.device.specs.declared.Unbuilt.{Unbuilt}
+
+-- a device whose parts lie apart
+abbrev pub of_parts : Record → Live → List ℕ → Device
+of_parts r l b = record { profile = r; live = l; buffer = b }
 
 -- ---- building
 
@@ -113,7 +118,7 @@ pub record Handing (r : Result ℕ Refusal) (exit : List ℕ) (d : Device) (entr
 -- ---- the self-powered flag
 
 abbrev pub with_powered : Bool → Device → Device
-with_powered on d = record d { live = record d.live { kept = record d.live.kept { powered = on } } }
+with_powered on d = record d { live = with_powered_live on d.live }
 
 -- unchanged where it is refused
 unfoldable pub powered_of : Device → Bool → Device

@@ -5,7 +5,7 @@
 
 ghost use Rattle.std.specs.Prelude.{◌≡◌};
 ghost use Rattle.common.specs.Refusals.{unless};
-ghost use Rattle.device.specs.Device.{Stepping, Handing, Setting, fresh, build_refusal, build_of, no_masks, masks_of, polled_of};
+ghost use Rattle.device.specs.Device.{Stepping, Handing, Setting, of_parts, fresh, build_refusal, build_of, no_masks, masks_of, polled_of};
 
 use actions::Actions;
 use common::Refusal;
@@ -92,6 +92,33 @@ pub fn said(h: &Handled, event: &Event) -> Polled
     }
 }
 
+/// [`Device::data`] of a device whose parts lie apart, so that none is put together to be read.
+///
+/// # Errors
+///
+/// As there.
+#[tactic(auto, using(crate::proofs::Laws::tests), unfolding(crate::specs::Device::data_refusal, crate::specs::Device::handed_room))]
+pub fn hand_out(
+    profile: &Record,
+    live: &Live,
+    buffer: &[u8; BUFFER],
+    room: &mut [u8],
+) -> Result<usize, Refusal>
+    ensures { Handing result room.new (of_parts profile.now live.now buffer.now) room.old }
+{
+    let coming = live.pipe.coming;
+    live.check(profile)?;
+    if coming.awaited == 0 || coming.held < coming.awaited {
+        return Err(Refusal::NoData);
+    }
+    let n = coming.awaited as usize;
+    if room.len() < n {
+        return Err(Refusal::DataRoom);
+    }
+    common::put(buffer, 0, n, room, 0);
+    Ok(n)
+}
+
 // The length of the book, unless a number refuses: lowest first, 1 to 3 of the record, 4 of the length.
 #[tactic(auto, using(crate::proofs::Laws::tests), unfolding(crate::specs::Device::build_refusal, live::specs::Live::book_fine))]
 fn book_length(profile: &Record, book: usize) -> Result<u32, Refusal>
@@ -133,7 +160,7 @@ impl Device {
         }
     }
 
-    // By value: `poll::poll` is the one function that changes a device in place.
+    // By value: `poll::poll` is the same step in place.
     /// One event of the bus, with the tile book and the packet that it brings and a room for the packet that it sends.
     ///
     /// # Errors
@@ -166,27 +193,16 @@ impl Device {
         }
     }
 
-    /// The OUT data of the last accepted SETUP goes to the front of the room: how many bytes.
+    /// The OUT data of the last accepted SETUP goes to the front of the room: how many bytes ([`hand_out`]).
     ///
     /// # Errors
     ///
     /// 9 where the device may not be used ([`Live::check`]), 7 where no OUT data is complete, 8 where the room is shorter than it.
     /// Nothing is written then.
-    #[tactic(auto, using(crate::proofs::Laws::tests), unfolding(crate::specs::Device::data_refusal, crate::specs::Device::handed_room))]
     pub fn data(&self, room: &mut [u8]) -> Result<usize, Refusal>
         ensures { Handing result room.new self.now room.old }
     {
-        let coming = self.live.pipe.coming;
-        self.live.check(&self.profile)?;
-        if coming.awaited == 0 || coming.held < coming.awaited {
-            return Err(Refusal::NoData);
-        }
-        let n = coming.awaited as usize;
-        if room.len() < n {
-            return Err(Refusal::DataRoom);
-        }
-        common::put(&self.buffer, 0, n, room, 0);
-        Ok(n)
+        hand_out(&self.profile, &self.live, &self.buffer, room)
     }
 
     /// Sets whether the device is self-powered now, which GET_STATUS tells.
@@ -194,12 +210,10 @@ impl Device {
     /// # Errors
     ///
     /// 9 where the device may not be used ([`Live::check`]). Nothing is changed then.
-    #[tactic(auto, using(crate::proofs::Laws::tests), unfolding(crate::specs::Device::powered_of))]
+    #[tactic(auto, using(crate::proofs::Laws::powered_device))]
     pub fn set_self_powered(&mut self, on: bool) -> Result<(), Refusal>
         ensures { Setting result self.new self.old on }
     {
-        self.live.check(&self.profile)?;
-        self.live.kept.powered = on;
-        Ok(())
+        self.live.set_self_powered(&self.profile, on)
     }
 }

@@ -80,7 +80,7 @@ fn run(state: &mut [u8], book: &[u8], events: &[u8], trace: &mut [u8]) -> Result
     ensures state { state.new ≡ ran_state state.old book.now events.now trace.old }
     ensures trace { trace.new ≡ ran_trace state.old book.now events.now trace.old }
 {
-    // made here from its parts: a device that comes in a Result (`state::read`) is copied twice more, at each call of a firmware
+    // Made here from its parts: a device that comes in a Result (`state::read`) is copied twice more.
     let parts = Parts::of(state).ok_or(Refusal::BadState)?;
     let mut device = parts.device();
     let ran = stream::run(&mut device, book, events, trace);
@@ -102,7 +102,12 @@ fn data(state: &[u8], room: &mut [u8]) -> Result<usize, Refusal>
     ensures count { result ≡ cond (state_coded state.now) (handed_of (device_of state.now) (length room.old)) (Err (refusal 9)) }
     ensures room { room.new ≡ data_room state.now room.old }
 {
-    state::read(state)?.data(room)
+    let parts = Parts::of(state).ok_or(Refusal::BadState)?;
+    let profile = record_bytes::read(parts.record);
+    let live = live_bytes::read(parts.live);
+    // a copy: straight from the state to the room, the archive would ask its host for `memmove`
+    let buffer = *parts.buffer;
+    device::hand_out(&profile, &live, &buffer, room)
 }
 
 /// The OUT data goes to the front of the room: 16 times how many bytes, and the number of the refusal.
@@ -119,9 +124,12 @@ fn set_self_powered(state: &mut [u8], on: bool) -> Result<(), Refusal>
     ensures number { result ≡ unless (flag_number state.old) tt }
     ensures state { state.new ≡ flag_state state.old on }
 {
-    let mut device = state::read(state)?;
-    device.set_self_powered(on)?;
-    state::keep(&device.live, &device.buffer, state);
+    let parts = Parts::of(state).ok_or(Refusal::BadState)?;
+    let profile = record_bytes::read(parts.record);
+    let mut live = live_bytes::read(parts.live);
+    live.set_self_powered(&profile, on)?;
+    let buffer = *parts.buffer;
+    state::keep(&live, &buffer, state);
     Ok(())
 }
 

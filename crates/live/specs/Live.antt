@@ -1,5 +1,7 @@
 -- Document 01, "When the mast says no": the states that refusal 9 names, and the order of a step's refusals.
-use Rattle.std.specs.Prelude.{ℕ, ◌+◌, ◌%◌, Bool, true, false, cond, ◌&&◌, eqb, leb}
+use Rattle.std.specs.Prelude.{ℕ, ◌+◌, ◌%◌, Bool, true, false, cond, ◌&&◌, ◌≡◌, eqb, leb, Result, ⊤}
+use Rattle.common.specs.Refusals.{unless}
+use Rattle.common.specs.declared.Refusal.{Refusal}
 use Rattle.record.specs.declared.Record.{Record}
 use Rattle.limits.specs.Limits.{lowest}
 use Rattle.control_pipe.specs.Sizes.{buffer_room}
@@ -70,3 +72,16 @@ unfit r l = cond (live_fine l && eqb (lowest r) 0) 0 9
 unfoldable pub step_refusal : Record → Live → ℕ → ℕ → ℕ
 step_refusal r l book room =
     cond (eqb (unfit r l) 0) (cond (eqb book l.book) (cond (leb r.plan.basics.packet room) 0 6) 5) 9
+
+-- ---- the self-powered flag
+
+abbrev pub with_powered : Bool → Live → Live
+with_powered on l = record l { kept = record l.kept { powered = on } }
+
+-- unchanged where it is refused
+unfoldable pub powered_of : Record → Live → Bool → Live
+powered_of r l on = cond (eqb (unfit r l) 0) (with_powered on l) l
+
+pub record Setting (r : Result ⊤ Refusal) (exit : Live) (profile : Record) (l : Live) (on : Bool) : Type 0 where
+  pub value : r ≡ unless (unfit profile l) tt
+  pub live : exit ≡ powered_of profile l on

@@ -3,7 +3,7 @@
 
 ghost use Rattle.std.specs.Prelude.{◌≡◌};
 ghost use Rattle.common.specs.Refusals.{unless};
-ghost use Rattle.live.specs.Live.{fresh, book_fine, coming_fine, reply_fine, pipe_fine, state_fine, live_fine, unfit, step_refusal};
+ghost use Rattle.live.specs.Live.{fresh, book_fine, coming_fine, reply_fine, pipe_fine, state_fine, live_fine, unfit, step_refusal, Setting};
 
 use common::Refusal;
 use control_pipe::{BUFFER, Coming, Pipe, Reply, Source};
@@ -81,6 +81,16 @@ impl Live {
         if room < profile.plan.basics.packet as usize {
             return Err(Refusal::PacketRoom);
         }
+        Ok(())
+    }
+
+    /// Sets whether the device of this record is self-powered now. Refusal 9 unless it may be used at all; nothing is changed then.
+    #[tactic(auto, unfolding(crate::specs::Live::unfit, crate::specs::Live::powered_of))]
+    pub fn set_self_powered(&mut self, profile: &Record, on: bool) -> Result<(), Refusal>
+        ensures { Setting result self.new profile.now self.old on }
+    {
+        self.check(profile)?;
+        self.kept.powered = on;
         Ok(())
     }
 }

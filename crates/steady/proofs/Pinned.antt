@@ -2,7 +2,8 @@
 use Prim.Native.Nat.{ℕ}
 use mathlib.Core.Path.{◌≡◌, refl}
 use mathlib.Core.List.{List}
-use Rattle.std.specs.Prelude.{Option}
+use Rattle.std.specs.Prelude.{Option, Result, ⊤}
+use Rattle.common.specs.declared.Refusal.{Refusal}
 use Rattle.common.proofs.Once.{Once, equal, equals}
 use Rattle.control_pipe.specs.declared.Heard.{Heard}
 use Rattle.control_pipe.specs.declared.Moved.{Moved}
@@ -23,6 +24,7 @@ use Rattle.live.proofs.Live.fresh.Reads as fresh
 use Rattle.live.proofs.book_fine.Reads as book
 use Rattle.live.proofs.Live.check.Reads as unfit
 use Rattle.live.proofs.Live.check_step.Reads as refusal
+use Rattle.live.proofs.Live.set_self_powered.Reads as powered
 use Rattle.answers.specs.declared.Verdict.{Verdict}
 use Rattle.answers.proofs.write.Reads as write
 use Rattle.effects.specs.declared.Half.{Half}
@@ -88,6 +90,9 @@ unfit-once κs a x y s t = equal
 
 pub refusal-once : Once refusal.Post (λ κs x s. x)
 refusal-once κs a x y s t = equal
+
+pub powered-once : Once {B = Result ⊤ Refusal × Live} powered.Post (λ κs x s. (x, s.0.now))
+powered-once κs a x y s t p q = equals p.value p.live q.value q.live
 
 -- ---- answers
 

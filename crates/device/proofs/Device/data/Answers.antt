@@ -1,8 +1,0 @@
-use borrow.Author.Rules.{rules}
-use borrow.Author.Tests.{ne_eqb, le-leb}
-use Rattle.common.proofs.Refusals.{passed}
-use Rattle.device.proofs.Laws.{data-handed}
-use Rattle.device.proofs.Device.data.Goals as goal
-
-pub returns : goal.returns
-returns c = data-handed c.args.self.now c.args.room.now (search rules) (passed _ (tt {0}) (tt {0}) (search rules)) (ne_eqb _ _ c.if-coming-eq0.false) (le-leb _ _ c.if-coming.false) (le-leb _ _ c.if-room-n.false) c.put.ensures
