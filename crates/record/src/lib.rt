@@ -109,6 +109,8 @@ impl Record {
     }
 
     /// The record with the next language, with no string.
+    // Neither this nor the next is inlined: a compiler that looks inside cuts a record into its strings at each copy.
+    #[inline(never)]
     pub fn with_language(mut self, id: u16) -> Record
         ensures { result ≡ with_language id self }
     {
@@ -124,6 +126,7 @@ impl Record {
 
     /// The record with a string of the language that was added last. One of more than [`UNITS`] units spoils its length, one of
     /// no language the count of languages.
+    #[inline(never)]
     pub fn with_string(mut self, name: Name, units: &[u16]) -> Record
         ensures { result ≡ with_string name units.now self }
     {
