@@ -34,7 +34,7 @@ const UNSTALL_IN: u8 = 5;
 fn actions<R: Print>(rt: &R, bytes: &[u8]) -> io::Result<()> {
     for action in bytes.chunks_exact(2) {
         if action[0] != 0 && action[0] != UNSTALL_IN {
-            console::hex(rt, action)?;
+            console::hex(&mut io::writer(rt), action)?;
         }
     }
     Ok(())
@@ -43,11 +43,11 @@ fn actions<R: Print>(rt: &R, bytes: &[u8]) -> io::Result<()> {
 /// The line of a trace entry.
 fn line<R: Print>(rt: &R, entry: &[u8; ENTRY]) -> io::Result<()> {
     let packet = &entry[TOP..];
-    console::hex(rt, &entry[..ACTIONS])?;
+    console::hex(&mut io::writer(rt), &entry[..ACTIONS])?;
     print!(rt; ".")?;
     actions(rt, &entry[ACTIONS..TOP])?;
     print!(rt; ".")?;
-    console::hex(rt, &packet[..console::used(packet)])?;
+    console::hex(&mut io::writer(rt), &packet[..console::used(packet)])?;
     println!(rt;)
 }
 

@@ -23,7 +23,7 @@ const TILES: [u8; 48] = [
 /// The trace entries of the events that were taken, a line for each.
 fn entries<R: Print>(rt: &R, trace: &[u8], count: usize) -> io::Result<()> {
     for entry in trace.chunks_exact(ENTRY).take(count) {
-        console::hex(rt, &entry[..console::used(entry)])?;
+        console::hex(&mut io::writer(rt), &entry[..console::used(entry)])?;
         println!(rt;)?;
     }
     Ok(())
@@ -45,7 +45,7 @@ fn replay<R: Print>(rt: &R, packet: u8, events: &[u8]) -> io::Result<()> {
     let why = ran.stop.map_or(0, Refusal::number);
     entries(rt, &trace, ran.count)?;
     print!(rt; "{packet} {} {why} {held} {denied} ", ran.count)?;
-    console::hex(rt, &room[..held.min(BUFFER)])?;
+    console::hex(&mut io::writer(rt), &room[..held.min(BUFFER)])?;
     println!(rt;)
 }
 
