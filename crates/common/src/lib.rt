@@ -1,4 +1,4 @@
-//! What the mast's crates share: the refusals, values that stand in bytes as codes, and the one copy of bytes.
+//! What the mast's crates share: the refusals, values that stand in bytes as codes, and a copy that does nothing past an end.
 #![tactic(auto)]
 
 ghost use Rattle.std.specs.Prelude.{◌≡◌, ℕ, ◌+◌, ◌≤◌, length, replicate, leb};
