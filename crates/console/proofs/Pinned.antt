@@ -1,5 +1,6 @@
 -- Each public function's promise settles its outcome: `used`'s whatever it is given, and an `Ok` of `read_full` or `hex` where the bytes that the
--- reader has left, or the writer holds, are known. Of an `Err`, and where they are not known, no promise says what was read or written. Assumes nothing.
+-- reader has left, or the writer holds, are known. Of an `Err`, and where they are not known, no promise says what was read or written,
+-- and none says what stands in the buffer behind the bytes that were read. Assumes nothing.
 use Rattle.std.proofs.Common.{◌≡◌, ℕ, ◌+◌, ◌<◌, ◌≤◌, ◌++◌, List, [], length, take, drop, min, Option, Some, None, IsSome, Result, Ok, Err, IsOk, IfOk, OnOk, arith, sym, ap, ◌∙◌, subst, length-append, length-take-le}
 use Rattle.std.proofs.Math.Nat.{eq-or-lt_of_le, min-eq_left, min-eq_right}
 use Rattle.std.proofs.Math.Seq.{take-append_seam, drop-append_seam}

@@ -1,4 +1,4 @@
-//! What the programs share: standard input read into a buffer, and bytes printed in hex.
+//! What the programs share: an input read into a buffer, and bytes written in hex.
 #![tactic(auto)]
 
 ghost use Rattle.std.specs.Prelude.{◌≡◌, ◌<◌, ◌≤◌, ◌/◌, ◌%◌, [], ◌∷◌, IfOk, OnOk, false, length, take};
